@@ -1,0 +1,3 @@
+pub mod Ranges
+pub mod PolynomialFit
+pub mod UniversalFit

@@ -1,0 +1,4 @@
+pub mod UniversalFit
+pub mod Universal
+pub mod PolynomialFit
+pub mod Polynomial

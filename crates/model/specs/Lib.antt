@@ -1,0 +1,5 @@
+pub mod Kind
+pub mod Counting
+pub mod Grouping
+pub mod Universal
+pub mod Polynomial

@@ -1,0 +1,195 @@
+//! The reasons to refuse: one case for each, its number, the values in its brackets, and how it is written out.
+ghost use mathlib.Core.Path.{_≡_};
+ghost use Rattle.std.specs.declared.option.Option.the-variants.{Some};
+ghost use Rattle.refusal.specs.Reason.{cause-number, side-number, reason, listed, spelt};
+
+mod values;
+
+use std::fmt;
+pub use values::Values;
+
+/// Which of the boards that a call brings.
+#[derive(Clone, Copy, PartialEq, Eq, Debug)]
+pub enum Side {
+    /// The board written to, or the only one.
+    Written,
+    /// The board that is added or taken off.
+    Other,
+}
+
+/// What a report finds out of balance.
+#[derive(Clone, Copy, PartialEq, Eq, Debug)]
+pub enum Cause {
+    /// The total is 2^63 or more.
+    TotalTooLarge,
+    /// A cell is 2^63 or more.
+    CellTooLarge,
+    /// A cell is above its group's cell 0.
+    CellAboveCount,
+    /// The counts of a row's groups do not add up to the total.
+    RowSumDiffers,
+}
+
+/// Why a call refuses. A refused call leaves everything as it was.
+#[derive(Clone, Copy, PartialEq, Eq, Debug)]
+pub enum Refusal {
+    RowsOutOfRange,
+    WidthNotAllowed,
+    DrawnNumberTooLarge,
+    SpanOutOfRange,
+    KeyOutOfRange,
+    SpanBelowCodes,
+    WrongCellCount {
+        brought: usize,
+        board: Side,
+    },
+    WrongPlanNumber {
+        board: Side,
+    },
+    ZeroWeight,
+    LevelOutOfRange,
+    ListTooShort,
+    OutOfBalance {
+        cause: Cause,
+        row: usize,
+        group: usize,
+        cell: usize,
+    },
+    BufferTooShort {
+        needed: usize,
+    },
+    MessageMisshapen {
+        bit_place: u64,
+    },
+    PlanFieldDiffers {
+        bit_place: u64,
+    },
+    SectionUnsound {
+        row: usize,
+        bit_place: u64,
+    },
+    WrongLineForm {
+        line: u64,
+    },
+}
+
+impl Values {
+    pub fn as_slice(&self) -> &[u64]
+        ensures { λ r. ⌜ now r ≡ listed (now (self .entry)) ⌝ }
+    {
+        &self.places[0..self.count]
+    }
+}
+
+impl Side {
+    pub fn number(&self) -> u64
+        ensures { λ r. ⌜ r ≡ side-number (now (self .entry)) ⌝ }
+    {
+        match self {
+            Side::Written => 0,
+            Side::Other => 1,
+        }
+    }
+}
+
+impl Cause {
+    pub fn number(&self) -> u64
+        ensures { λ r. ⌜ r ≡ cause-number (now (self .entry)) ⌝ }
+    {
+        match self {
+            Cause::TotalTooLarge => 1,
+            Cause::CellTooLarge => 2,
+            Cause::CellAboveCount => 3,
+            Cause::RowSumDiffers => 4,
+        }
+    }
+}
+
+impl Refusal {
+    pub fn number(&self) -> u32
+        ensures { λ r. ⌜ r ≡ reason (now (self .entry)) .number ⌝ }
+    {
+        match self {
+            Refusal::RowsOutOfRange => 1,
+            Refusal::WidthNotAllowed => 2,
+            Refusal::DrawnNumberTooLarge => 3,
+            Refusal::SpanOutOfRange => 4,
+            Refusal::KeyOutOfRange => 5,
+            Refusal::SpanBelowCodes => 6,
+            Refusal::WrongCellCount { .. } => 7,
+            Refusal::WrongPlanNumber { .. } => 8,
+            Refusal::ZeroWeight => 9,
+            Refusal::LevelOutOfRange => 10,
+            Refusal::ListTooShort => 11,
+            Refusal::OutOfBalance { .. } => 12,
+            Refusal::BufferTooShort { .. } => 13,
+            Refusal::MessageMisshapen { .. } => 14,
+            Refusal::PlanFieldDiffers { .. } => 15,
+            Refusal::SectionUnsound { .. } => 16,
+            Refusal::WrongLineForm { .. } => 17,
+        }
+    }
+
+    pub fn values(&self) -> Values
+        ensures { λ r. ⌜ listed r ≡ reason (now (self .entry)) .values ⌝ }
+    {
+        match self {
+            Refusal::WrongCellCount { brought, board } => Values {
+                places: [*brought as u64, board.number(), 0, 0],
+                count: 2,
+            },
+            Refusal::WrongPlanNumber { board } => Values {
+                places: [board.number(), 0, 0, 0],
+                count: 1,
+            },
+            Refusal::OutOfBalance {
+                cause,
+                row,
+                group,
+                cell,
+            } => Values {
+                places: [cause.number(), *row as u64, *group as u64, *cell as u64],
+                count: 4,
+            },
+            Refusal::BufferTooShort { needed } => Values {
+                places: [*needed as u64, 0, 0, 0],
+                count: 1,
+            },
+            Refusal::MessageMisshapen { bit_place } => Values {
+                places: [*bit_place, 0, 0, 0],
+                count: 1,
+            },
+            Refusal::PlanFieldDiffers { bit_place } => Values {
+                places: [*bit_place, 0, 0, 0],
+                count: 1,
+            },
+            Refusal::SectionUnsound { row, bit_place } => Values {
+                places: [*row as u64, *bit_place, 0, 0],
+                count: 2,
+            },
+            Refusal::WrongLineForm { line } => Values {
+                places: [*line, 0, 0, 0],
+                count: 1,
+            },
+            _ => Values {
+                places: [0, 0, 0, 0],
+                count: 0,
+            },
+        }
+    }
+}
+
+/// The number and the values, parted by single spaces.
+pub impl fmt::Display for Refusal as RefusalDisplay {
+    ghost shown = { λ x. Some (spelt (reason x)) };
+
+    fn fmt<W: fmt::Write>(&self, f: &mut fmt::Formatter<W>) -> fmt::Result {
+        let number = self.number();
+        write!(f, "{number}")?;
+        let values = self.values();
+        for value in values.as_slice() {
+            write!(f, " {value}")?;
+        }
+        Ok(())
+    }
+}
