@@ -2,8 +2,10 @@
 use mathlib.Core.Path.{_≡_}
 use mathlib.Core.Logic.{_⊎_, _≢_}
 use mathlib.Core.Bool.{Bool, cond, _&&_}
+use mathlib.Core.List.{List, map}
 use Prim.Native.Nat.{ℕ, _^_, _<_, _≤_}
 use lib.Dec.{eqb, ltb}
+use Rattle.std.specs.Iters.{counting}
 use Rattle.model.specs.Counting.{count-below}
 
 -- What a grouping means: how many rows, how many groups in a row, and the group for each row and code.
@@ -23,6 +25,10 @@ pub record Groups-laws (g : Groups) : Type 0 where
 -- a rule for groups, kept to rows below `rows` and codes below 2^30: any other row or code has group 0
 abbrev pub inside : ℕ → (ℕ → ℕ → ℕ) → ℕ → ℕ → ℕ
 inside rows rule row code = cond (ltb row rows && ltb code (2 ^ 30)) (rule row code) 0
+
+-- the groups of a code, row by row
+abbrev pub groups-of : Groups → ℕ → List ℕ
+groups-of g code = map (λ row. g .group row code) (counting 0 (g .rows))
 
 -- whether two codes share their group in a row
 abbrev pub shares : Groups → ℕ → ℕ → ℕ → Bool

@@ -7,7 +7,7 @@ use Rattle.std.specs.Written.{decimal}
 use Rattle.std.proofs.shelf.Lists.{take-more}
 use Rattle.refusal.specs.Reason.{spaced}
 
-spaced-push : (vs : List ℕ) (v : ℕ) → spaced (vs ++ (v ∷ [])) ≡ spaced vs ++ (32 ∷ decimal v)
+pub spaced-push : (vs : List ℕ) (v : ℕ) → spaced (vs ++ (v ∷ [])) ≡ spaced vs ++ (32 ∷ decimal v)
 spaced-push [] v = append-nil (32 ∷ decimal v)
 spaced-push (u ∷ vs) v = ap (λ l. (32 ∷ decimal u) ++ l) (spaced-push vs v) ∙ sym (append-assoc (32 ∷ decimal u) (spaced vs) (32 ∷ decimal v))
 

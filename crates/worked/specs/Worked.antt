@@ -1,16 +1,15 @@
 -- Worked numbers.
 use mathlib.Core.Path.{_≡_}
 use mathlib.Core.Bool.{true}
-use mathlib.Core.List.{List, [], _∷_, map}
+use mathlib.Core.List.{List, [], _∷_}
 use Prim.Native.Nat.{ℕ}
 use lib.ListN.{replicate}
-use Rattle.std.specs.Iters.{counting}
 use Rattle.std.specs.Results.{isOk}
 use Rattle.std.specs.declared.result.Result.{Result}
 use Rattle.std.specs.declared.result.Result.the-variants.{Ok, Err}
 use Rattle.refusal.specs.declared.Refusal.{Refusal}
 use Rattle.refusal.specs.Reason.{reason}
-use Rattle.model.specs.Grouping.{Groups}
+use Rattle.model.specs.Grouping.{groups-of}
 use Rattle.model.specs.Universal.{universal}
 use Rattle.model.specs.Polynomial.{digit-count, polynomial, polynomial-spread}
 use Rattle.keys.specs.Station.{new-station}
@@ -36,10 +35,6 @@ drawn-of a b = replicate 16 (record { a = a; b = b })
 abbrev universal-row : (width a b code : ℕ) → ℕ
 universal-row width a b code = universal 1 width (λ row. a) (λ row. b) .group 0 code
 
--- the groups of a code in all rows
-abbrev in-all-rows : Groups → ℕ → List ℕ
-in-all-rows g code = map (λ row. g .group row code) (counting 0 (g .rows))
-
 pub record Worked-numbers : Type 0 where
   pub the-last-station-is-a-key : Accepted (new-station 999999999)
   pub the-number-after-it-is-refused : Refused 5 (new-station 1000000000)
@@ -51,5 +46,5 @@ pub record Worked-numbers : Type 0 where
   pub four-digits-below-a-million : digit-count 61 1000000 ≡ 4
   pub six-rows-have-spread-3 : polynomial-spread 6 61 1000000 ≡ 3
   pub three-digits-below-a-thousand-million : digit-count 1021 1000000000 ≡ 3
-  pub groups-of-17204 : in-all-rows (polynomial 6 61 1000000) 17204 ≡ 2 ∷ 44 ∷ 33 ∷ 30 ∷ 35 ∷ 48 ∷ []
-  pub groups-of-400005 : in-all-rows (polynomial 6 61 1000000) 400005 ≡ 28 ∷ 44 ∷ 36 ∷ 10 ∷ 33 ∷ 50 ∷ []
+  pub groups-of-17204 : groups-of (polynomial 6 61 1000000) 17204 ≡ 2 ∷ 44 ∷ 33 ∷ 30 ∷ 35 ∷ 48 ∷ []
+  pub groups-of-400005 : groups-of (polynomial 6 61 1000000) 400005 ≡ 28 ∷ 44 ∷ 36 ∷ 10 ∷ 33 ∷ 50 ∷ []
