@@ -1,2 +1,4 @@
 pub mod TextSteps
 pub mod Adding
+pub mod Numbers
+pub mod CommandSteps

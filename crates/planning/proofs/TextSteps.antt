@@ -16,7 +16,7 @@ use Rattle.std.specs.shelf.Text.{allDigits}
 use Rattle.planning.specs.Text.{place, value-after, decimal-number, lines-from, lines}
 
 -- a part that goes on to the end
-pub part-to-end : (n : ℕ) (xs : List ℕ) → take (length xs - n) (drop n xs) ≡ drop n xs
+pub part-to-end : {X : Type 0} (n : ℕ) (xs : List X) → take (length xs - n) (drop n xs) ≡ drop n xs
 part-to-end n xs = take-all (length xs - n) (drop n xs) (omega (arith, length-drop n xs))
 
 pub place-here : (byte : ℕ) (xs : List ℕ) (i : ℕ) → i < length xs → getD xs i 0 ≡ byte → place byte (drop i xs) ≡ 0

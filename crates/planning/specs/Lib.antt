@@ -2,3 +2,5 @@ pub mod Text
 pub mod Typed
 pub mod Sentences
 pub mod Description
+pub mod Arguments
+pub mod Command

@@ -89,8 +89,8 @@ fn write_lines<K: Typed, G: Grouping>(
     Ok(count)
 }
 
-/// All that is said of the keys in a text, one key to a line. The error is want of memory.
-pub fn describe<K: Typed, G: Grouping>(
+// All that is said of the keys in a text, one key to a line. The error is want of memory.
+pub(crate) fn describe<K: Typed, G: Grouping>(
     heap: Global,
     grouping: &G,
     input: &[u8],

@@ -7,8 +7,8 @@ use refusal::Refusal;
 use refusal::RefusalDisplay;
 use std::fmt;
 
-/// The code of a key, and its group in every row.
-pub fn write_key<G: Grouping>(out: &mut String, grouping: &G, code: u32) -> fmt::Result
+// The code of a key, and its group in every row.
+pub(crate) fn write_key<G: Grouping>(out: &mut String, grouping: &G, code: u32) -> fmt::Result
     ensures { λ r. ⌜ Adds r (string-bytes (now (out .entry))) (key-sentence (G·Grouping .groups (now (grouping .entry))) code) (string-bytes (now (out .exit))) ⌝ }
 {
     write!(out, "code {code} groups")?;
@@ -19,8 +19,8 @@ pub fn write_key<G: Grouping>(out: &mut String, grouping: &G, code: u32) -> fmt:
     writeln!(out)
 }
 
-/// In how many rows two different codes share a group, and the spread that bounds it; nothing where they share none.
-pub fn write_shared<G: Grouping>(
+// In how many rows two different codes share a group, and the spread that bounds it; nothing where they share none.
+pub(crate) fn write_shared<G: Grouping>(
     out: &mut String,
     grouping: &G,
     code: u32,
@@ -50,16 +50,16 @@ fn fault(refusal: &Refusal) -> &'static str
     }
 }
 
-/// A line that is refused, and why.
-pub fn write_refused(out: &mut String, line: u64, refusal: Refusal) -> fmt::Result
+// A line that is refused, and why.
+pub(crate) fn write_refused(out: &mut String, line: u64, refusal: Refusal) -> fmt::Result
     ensures { λ r. ⌜ Adds r (string-bytes (now (out .entry))) (refused-sentence line refusal) (string-bytes (now (out .exit))) ⌝ }
 {
     let lacks = fault(&refusal);
     writeln!(out, "line {line} refused: {refusal} ({lacks})")
 }
 
-/// How many keys were read, and how many lines were refused.
-pub fn write_closing(out: &mut String, keys: usize, refused: u64) -> fmt::Result
+// How many keys were read, and how many lines were refused.
+pub(crate) fn write_closing(out: &mut String, keys: usize, refused: u64) -> fmt::Result
     ensures { λ r. ⌜ Adds r (string-bytes (now (out .entry))) (closing-sentence keys refused) (string-bytes (now (out .exit))) ⌝ }
 {
     writeln!(out, "keys read: {keys}, lines refused: {refused}")

@@ -3,8 +3,8 @@ ghost use Prim.Native.Nat.{_≤_};
 ghost use lib.ListN.{length};
 ghost use Rattle.planning.specs.Text.{place, decimal-number};
 
-/// The place of the first such byte, or the length where there is none.
-pub fn place_of(byte: u8, text: &[u8]) -> usize
+// The place of the first such byte, or the length where there is none.
+pub(crate) fn place_of(byte: u8, text: &[u8]) -> usize
     ensures value { λ r. ⌜ r ≡ place byte (now (text .entry)) ⌝ }
     ensures within { λ r. ⌜ r ≤ length (now (text .entry)) ⌝ }
 {
@@ -16,8 +16,8 @@ pub fn place_of(byte: u8, text: &[u8]) -> usize
     text.len()
 }
 
-/// The number below 2^32 that is written in one or more decimal digits, and nothing else.
-pub fn number(text: &[u8]) -> Option<u32>
+// The number below 2^32 that is written in one or more decimal digits, and nothing else.
+pub(crate) fn number(text: &[u8]) -> Option<u32>
     ensures { λ r. ⌜ r ≡ decimal-number (now (text .entry)) ⌝ }
 {
     let mut value: u64 = 0;

@@ -1,0 +1,63 @@
+-- What is told of the words of a command line, read one by one.
+use mathlib.Core.Path.{_≡_, refl, sym, ap, ap₂, _∙_}
+use mathlib.Core.List.{List, [], _∷_, map}
+use Prim.Native.Nat.{ℕ, _-_, _<_, _≤_}
+use native.Mathlib.Omega.{arith}
+use lib.ListN.{length, take, drop, getD}
+use Rattle.std.specs.declared.option.Option.{Option}
+use Rattle.std.specs.declared.option.Option.the-variants.{Some, None}
+use Rattle.std.specs.declared.result.Result.{Result}
+use Rattle.std.specs.declared.result.Result.the-variants.{Ok, Err}
+use Rattle.std.proofs.shelf.Lists.{getD-map, drop-map}
+use Rattle.planning.specs.Arguments.{kind-named, rule-named, numbers-from, chosen-from, Reads}
+use Rattle.planning.specs.Command.{Tells, answer-of, answer-to}
+use Rattle.planning.specs.declared.arguments.Misuse.{Misuse}
+use Rattle.planning.specs.declared.arguments.Misuse.the-variants.{Usage, Refused, NoMemory}
+use Rattle.planning.specs.declared.arguments.KindNamed.{KindNamed}
+use Rattle.planning.specs.declared.arguments.KindNamed.the-variants.{Stations, Pairs}
+use Rattle.planning.specs.declared.arguments.RuleNamed.{RuleNamed}
+use Rattle.planning.specs.declared.arguments.RuleNamed.the-variants.{Draws, Digits}
+use Rattle.planning.proofs.TextSteps.{part-to-end}
+
+no-grouping : (kind : Option KindNamed) (input : List ℕ) → answer-of kind (Err Usage) input ≡ Err Usage
+no-grouping None input = refl
+no-grouping (Some Stations) input = refl
+no-grouping (Some Pairs) input = refl
+
+no-numbers : (rule : Option RuleNamed) → chosen-from rule None ≡ Err Usage
+no-numbers None = refl
+no-numbers (Some Draws) = refl
+no-numbers (Some Digits) = refl
+
+-- words that are no numbers
+pub told-without-numbers : {V S : Type 0} (items : V → List ℕ) (out : S → List ℕ) (misuse : Misuse) (texts : List (List ℕ)) (kind : Option KindNamed) (rule : Option RuleNamed) (input : List ℕ) (told : Result (List ℕ) Misuse)
+    → Reads items (Err misuse) texts → (numbers-from texts ≡ None → told ≡ answer-of kind (chosen-from rule None) input) → Tells out (Err misuse) told
+told-without-numbers items out Usage texts kind rule input told h is = is h ∙ ap (λ g. answer-of kind g input) (no-numbers rule) ∙ no-grouping kind input
+told-without-numbers items out (Refused refusal) texts kind rule input told h is = absurd h
+told-without-numbers items out NoMemory texts kind rule input told h is = tt
+
+module _ {X : Type 0} (bytes : X → List ℕ) where
+  word-at : (words : List X) (i : ℕ) (word : X) → i < length words → word ≡ getD words i word → getD (map bytes words) i [] ≡ bytes word
+  word-at words i word h e = getD-map bytes words i word [] h ∙ ap bytes (sym e)
+
+  pub too-few-words : (words : List X) (input : List ℕ) → length words < 2 → answer-to (map bytes words) input ≡ Err Usage
+  too-few-words [] input h = refl
+  too-few-words (word ∷ []) input h = no-grouping (kind-named (bytes word)) input
+  too-few-words (word ∷ next ∷ words) input h = absurd (omega arith)
+
+  pub told-without-kind : (words : List X) (input : List ℕ) (first : X) → 2 ≤ length words → first ≡ getD words 0 first → None ≡ kind-named (bytes first)
+      → answer-to (map bytes words) input ≡ Err Usage
+  told-without-kind words input first two e k =
+      ap (λ kind. answer-of kind (chosen-from (rule-named (getD (map bytes words) 1 [])) (numbers-from (drop 2 (map bytes words)))) input)
+      (ap kind-named (word-at words 0 first (omega arith) e) ∙ sym k)
+
+  -- from the first word, the second, and the rest
+  pub told-by-words : (words : List X) (input : List ℕ) (first second : X) (kind : Option KindNamed) (rule : Option RuleNamed) (numbers : Option (List ℕ))
+      → 2 ≤ length words → first ≡ getD words 0 first → second ≡ getD words 1 second
+      → kind ≡ kind-named (bytes first) → rule ≡ rule-named (bytes second) → numbers-from (map bytes (take (length words - 2) (drop 2 words))) ≡ numbers
+      → answer-to (map bytes words) input ≡ answer-of kind (chosen-from rule numbers) input
+  told-by-words words input first second kind rule numbers two e₀ e₁ k r n =
+      ap₂ (λ a b. answer-of a b input)
+      (ap kind-named (word-at words 0 first (omega arith) e₀) ∙ sym k)
+      (ap₂ chosen-from (ap rule-named (word-at words 1 second (omega arith) e₁) ∙ sym r)
+      (ap numbers-from (drop-map bytes 2 words ∙ ap (map bytes) (sym (part-to-end 2 words))) ∙ n))

@@ -1,0 +1,57 @@
+-- What the planner's tool answers to the words of a command line and a text of keys.
+use mathlib.Core.Path.{_≡_}
+use mathlib.Core.Bool.{cond}
+use mathlib.Core.List.{List, []}
+use Prim.Native.Nat.{ℕ, _^_}
+use lib.Dec.{ltb}
+use lib.ListN.{getD, drop}
+use Rattle.std.specs.declared.option.Option.{Option}
+use Rattle.std.specs.declared.option.Option.the-variants.{Some, None}
+use Rattle.std.specs.declared.result.Result.{Result}
+use Rattle.std.specs.declared.result.Result.the-variants.{Ok, Err}
+use Rattle.model.specs.Kind.{Kind}
+use Rattle.model.specs.Grouping.{Groups}
+use Rattle.model.specs.Polynomial.{polynomial-spread}
+use Rattle.refusal.specs.declared.Refusal.{Refusal}
+use Rattle.refusal.specs.declared.Refusal.the-variants.{SpanBelowCodes}
+use Rattle.keys.specs.Station.{station-kind}
+use Rattle.keys.specs.Pair.{pair-kind}
+use Rattle.groupings.specs.Universal.{universal-groups}
+use Rattle.groupings.specs.Polynomial.{polynomial-groups}
+use Rattle.planning.specs.Typed.{station-line, pair-line}
+use Rattle.planning.specs.Description.{description}
+use Rattle.planning.specs.Arguments.{kind-named, rule-named, numbers-from, chosen-from}
+use Rattle.planning.specs.declared.arguments.Misuse.{Misuse}
+use Rattle.planning.specs.declared.arguments.Misuse.the-variants.{Usage, Refused, NoMemory}
+use Rattle.planning.specs.declared.arguments.KindNamed.{KindNamed}
+use Rattle.planning.specs.declared.arguments.KindNamed.the-variants.{Stations, Pairs}
+use Rattle.planning.specs.declared.arguments.Chosen.{Chosen}
+use Rattle.planning.specs.declared.arguments.Chosen.the-variants.{ByDraws, ByDigits}
+
+-- a call answers what is told, unless memory runs out
+abbrev pub Tells : {S : Type 0} → (S → List ℕ) → Result S Misuse → Result (List ℕ) Misuse → Type 0
+Tells bytes (Ok out) told = told ≡ Ok (bytes out)
+Tells bytes (Err Usage) told = told ≡ Err Usage
+Tells bytes (Err (Refused refusal)) told = told ≡ Err (Refused refusal)
+Tells bytes (Err NoMemory) told = Unit {0}
+
+module _ {K : Type 0} (kind : Kind K) (typed : ℕ → List ℕ → Result K Refusal) where
+  -- a grouping whose span is below the kind's number of codes makes no plan
+  abbrev pub answer-by : Groups → (span spread : ℕ) → List ℕ → Result (List ℕ) Misuse
+  answer-by g span spread input = cond (ltb span (kind .codes)) (Err (Refused SpanBelowCodes)) (Ok (description kind typed g spread input))
+
+  abbrev pub answer-for : Chosen → List ℕ → Result (List ℕ) Misuse
+  answer-for (ByDraws u) input = answer-by (universal-groups u) (2 ^ 30) (u .rows) input
+  answer-for (ByDigits p) input = answer-by (polynomial-groups p) (p .span) (polynomial-spread (p .rows) (p .width) (p .span)) input
+
+abbrev pub answer-of : Option KindNamed → Result Chosen Misuse → List ℕ → Result (List ℕ) Misuse
+answer-of None grouping input = Err Usage
+answer-of (Some Stations) (Ok grouping) input = answer-for station-kind station-line grouping input
+answer-of (Some Stations) (Err misuse) input = Err misuse
+answer-of (Some Pairs) (Ok grouping) input = answer-for pair-kind pair-line grouping input
+answer-of (Some Pairs) (Err misuse) input = Err misuse
+
+-- a kind of key, a rule, and the rule's numbers
+abbrev pub answer-to : List (List ℕ) → List ℕ → Result (List ℕ) Misuse
+answer-to words input =
+    answer-of (kind-named (getD words 0 [])) (chosen-from (rule-named (getD words 1 [])) (numbers-from (drop 2 words))) input
