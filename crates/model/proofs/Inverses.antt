@@ -7,7 +7,8 @@ use Prim.Native.Nat.{ℕ, zero, suc, _+_, _*_, _/_, _%_, _<_, _≤_}
 use native.Mathlib.Omega.{arith}
 use native.Mathlib.Nat.{div-add-mod, eq-or-lt-of-le}
 use lib.Dec.{T, eqb, leb, eqb→eq, leb→le}
-use Rattle.model.specs.Polynomial.{among, widths, allowed-width}
+use Rattle.model.specs.Counting.{among}
+use Rattle.model.specs.Polynomial.{widths, allowed-width}
 use Rattle.model.proofs.Coefficients.{Inverses}
 
 abbrev some-below : ℕ → (ℕ → Bool) → Bool

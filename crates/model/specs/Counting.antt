@@ -1,6 +1,13 @@
--- Sums and counts over the numbers below a bound, and the least number that passes a test.
-use mathlib.Core.Bool.{Bool, cond}
+-- Numbers in a list, sums and counts over the numbers below a bound, and the least number that passes a test.
+use mathlib.Core.Bool.{Bool, false, cond, _||_}
+use mathlib.Core.List.{List, [], _∷_}
 use Prim.Native.Nat.{ℕ, zero, suc, _+_}
+use lib.Dec.{eqb}
+
+-- whether a number stands in a list
+abbrev pub among : List ℕ → ℕ → Bool
+among [] n = false
+among (x ∷ xs) n = eqb n x || among xs n
 
 -- f 0 + f 1 + .. + f (n - 1)
 abbrev pub sum-below : ℕ → (ℕ → ℕ) → ℕ

@@ -1,19 +1,15 @@
 -- The polynomial grouping: a code's digits are the coefficients, and a row is the place where the polynomial is taken.
 use mathlib.Core.Path.{_≡_}
-use mathlib.Core.Bool.{Bool, false, _||_}
+use mathlib.Core.Bool.{Bool}
 use mathlib.Core.List.{List, [], _∷_}
 use Prim.Native.Nat.{ℕ, _+_, _-_, _*_, _/_, _%_, _^_, _<_, _≤_, min}
-use lib.Dec.{eqb, leb}
-use Rattle.model.specs.Counting.{sum-below, least-from}
+use lib.Dec.{leb}
+use Rattle.model.specs.Counting.{among, sum-below, least-from}
 use Rattle.model.specs.Grouping.{Groups, inside, Spread}
 
 -- the widths that a polynomial grouping may have
 abbrev pub widths : List ℕ
 widths = 31 ∷ 61 ∷ 127 ∷ 251 ∷ 509 ∷ 1021 ∷ 2039 ∷ 4093 ∷ []
-
-abbrev pub among : List ℕ → ℕ → Bool
-among [] n = false
-among (x ∷ xs) n = eqb n x || among xs n
 
 unfoldable pub allowed-width : ℕ → Bool
 allowed-width width = among widths width

@@ -1,5 +1,6 @@
 -- Texts added one after another.
 use mathlib.Core.Path.{_≡_, refl, sym, ap, ap₂, _∙_}
+use mathlib.Core.Bool.{true}
 use mathlib.Core.List.{List, [], _∷_, _++_, map, append-assoc, append-nil}
 use Prim.Native.Nat.{ℕ, _+_, _-_, _<_, _≤_}
 use native.Mathlib.Omega.{arith}
@@ -14,13 +15,14 @@ use Rattle.std.proofs.shelf.Lists.{drop-more, length-append}
 use Rattle.std.proofs.shelf.Counted.{map-counting-more}
 use Rattle.refusal.specs.Reason.{spaced}
 use Rattle.refusal.proofs.Spaced.{spaced-push}
+use Rattle.model.specs.Counting.{among}
 use Rattle.model.specs.Grouping.{Groups, shared-rows}
 use Rattle.refusal.specs.declared.Refusal.{Refusal}
 use Rattle.refusal.specs.Reason.{reason}
 use Rattle.planning.specs.Text.{lines}
 use Rattle.planning.specs.Sentences.{Adds, sharing, shared-sentence, line-fault, closing-sentence}
 use Rattle.model.specs.Kind.{Kind}
-use Rattle.planning.specs.Description.{shared-with, all-shared, code-read, codes-read, lines-said, description}
+use Rattle.planning.specs.Description.{shared-with, all-shared, code-read, codes-read, lines-said, new-code, new-codes, distinct, description}
 
 -- something was added before
 pub adds-after : {E : Type 0} (r : Result (Unit {0}) E) (start first middle second end : List ℕ) → middle ≡ start ++ first → Adds r middle second end → Adds r start (first ++ second) end
@@ -46,10 +48,10 @@ added-more whole now added rest rest′ after e r a = ap (λ l. l ++ rest′) a 
 pub added-all : (whole now rest : List ℕ) → now ++ rest ≡ whole → rest ≡ [] → now ≡ whole
 added-all whole now rest e r = sym (append-nil now) ∙ ap (λ l. now ++ l) (sym r) ∙ e
 
-pub sharing-said : (g : Groups) (spread code other rows s : ℕ) → (code ≡ other → ⊥) → (rows ≡ 0 → ⊥) → rows ≡ shared-rows g code other → s ≡ spread
+pub sharing-said : (g : Groups) (spread code other rows s : ℕ) → (rows ≡ 0 → ⊥) → rows ≡ shared-rows g code other → s ≡ spread
     → sharing code other rows s ≡ shared-sentence g spread code other
-sharing-said g spread code other rows s apart some r e =
-    rw (ne-eqb code other apart, ne-eqb (shared-rows g code other) 0 (λ z. some (r ∙ z))) (ap₂ (sharing code other) r e)
+sharing-said g spread code other rows s some r e =
+    rw (ne-eqb (shared-rows g code other) 0 (λ z. some (r ∙ z))) (ap₂ (sharing code other) r e)
 
 -- the fault of a refusal with this number
 pub fault-of-5 : (refusal : Refusal) → reason refusal .number ≡ 5 → line-fault refusal ≡ codes "no such key"
@@ -78,15 +80,25 @@ codes-at-most-lines kind typed line (text ∷ texts) =
     one (Err refusal) = omega arith
 
 -- what was written of the lines, of every two keys, and at the close
-pub described : {K : Type 0} (kind : Kind K) (typed : ℕ → List ℕ → Result K Refusal) (g : Groups) (spread : ℕ) (text empty out none codes slice middle end : List ℕ) (keys count : ℕ)
+pub described : {K : Type 0} (kind : Kind K) (typed : ℕ → List ℕ → Result K Refusal) (g : Groups) (spread : ℕ) (text empty out none codes slice once middle end : List ℕ) (keys count : ℕ)
     → empty ≡ [] → out ≡ empty ++ lines-said kind typed g 1 (lines text)
     → none ≡ [] → codes ≡ none ++ codes-read kind typed 1 (lines text) → slice ≡ codes
-    → middle ≡ out ++ all-shared g spread slice
+    → once ≡ distinct slice → middle ≡ out ++ all-shared g spread once
     → keys ≡ length slice → count ≡ length (lines text) → end ≡ middle ++ closing-sentence keys (count - keys)
     → end ≡ description kind typed g spread text
-described kind typed g spread text empty out none codes slice middle end keys count e o n cs s m ks l h =
+described kind typed g spread text empty out none codes slice once middle end keys count e o n cs s d m ks l h =
     let read : slice ≡ codes-read kind typed 1 (lines text) = s ∙ cs ∙ ap (λ x. x ++ codes-read kind typed 1 (lines text)) n in
     let said : out ≡ lines-said kind typed g 1 (lines text) = o ∙ ap (λ x. x ++ lines-said kind typed g 1 (lines text)) e in
     let kept : keys ≡ length (codes-read kind typed 1 (lines text)) = ks ∙ ap length read in
-    h ∙ ap₂ (λ x y. x ++ y) (m ∙ ap₂ (λ x y. x ++ all-shared g spread y) said read) (ap₂ (λ x y. closing-sentence x (y - x)) kept l)
-    ∙ append-assoc (lines-said kind typed g 1 (lines text)) (all-shared g spread (codes-read kind typed 1 (lines text))) _
+    h ∙ ap₂ (λ x y. x ++ y) (m ∙ ap₂ (λ x y. x ++ all-shared g spread y) said (d ∙ ap distinct read)) (ap₂ (λ x y. closing-sentence x (y - x)) kept l)
+    ∙ append-assoc (lines-said kind typed g 1 (lines text)) (all-shared g spread (distinct (codes-read kind typed 1 (lines text)))) _
+
+pub among-here : (codes : List ℕ) (code i : ℕ) → i < length codes → getD codes i 0 ≡ code → among (drop i codes) code ≡ true
+among-here codes code i h e = ap (λ xs. among xs code) (drop-more codes i 0 h) ∙ rw (eq-eqb code (getD codes i 0) (sym e)) refl
+
+pub among-later : (codes : List ℕ) (code i : ℕ) → i < length codes → (getD codes i 0 ≡ code → ⊥) → among (drop i codes) code ≡ among (drop (i + 1) codes) code
+among-later codes code i h ne = ap (λ xs. among xs code) (drop-more codes i 0 h) ∙ rw (ne-eqb code (getD codes i 0) (λ e. ne (sym e))) refl
+
+pub new-codes-here : (seen codes : List ℕ) (i : ℕ) → i < length codes
+    → new-codes seen (drop i codes) ≡ new-code seen (getD codes i 0) ++ new-codes (seen ++ new-code seen (getD codes i 0)) (drop (i + 1) codes)
+new-codes-here seen codes i h = ap (new-codes seen) (drop-more codes i 0 h)

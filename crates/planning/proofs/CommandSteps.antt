@@ -1,7 +1,7 @@
 -- What is told of the words of a command line, read one by one.
 use mathlib.Core.Path.{_≡_, refl, sym, ap, ap₂, _∙_}
 use mathlib.Core.List.{List, [], _∷_, map}
-use Prim.Native.Nat.{ℕ, _-_, _<_, _≤_}
+use Prim.Native.Nat.{ℕ, _-_, _^_, _<_, _≤_}
 use native.Mathlib.Omega.{arith}
 use lib.ListN.{length, take, drop, getD}
 use Rattle.std.specs.declared.option.Option.{Option}
@@ -10,13 +10,18 @@ use Rattle.std.specs.declared.result.Result.{Result}
 use Rattle.std.specs.declared.result.Result.the-variants.{Ok, Err}
 use Rattle.std.proofs.shelf.Lists.{getD-map, drop-map}
 use Rattle.planning.specs.Arguments.{kind-named, rule-named, numbers-from, chosen-from, Reads}
-use Rattle.planning.specs.Command.{Tells, answer-of, answer-to}
+use Rattle.model.proofs.Spread.{spread-of-all-rows}
+use Rattle.model.proofs.PolynomialLaw.{polynomial-spread-law}
+use Rattle.groupings.specs.Universal.{universal-groups}
+use Rattle.groupings.proofs.PolynomialFit.{fit-parts}
+use Rattle.planning.specs.Command.{Tells, answer-of, answer-to, Rows-shared-within-spread}
 use Rattle.planning.specs.declared.arguments.Misuse.{Misuse}
 use Rattle.planning.specs.declared.arguments.Misuse.the-variants.{Usage, Refused, NoMemory}
 use Rattle.planning.specs.declared.arguments.KindNamed.{KindNamed}
 use Rattle.planning.specs.declared.arguments.KindNamed.the-variants.{Stations, Pairs}
 use Rattle.planning.specs.declared.arguments.RuleNamed.{RuleNamed}
 use Rattle.planning.specs.declared.arguments.RuleNamed.the-variants.{Draws, Digits}
+use Rattle.planning.specs.declared.arguments.Chosen.the-variants.{ByDraws, ByDigits}
 use Rattle.planning.proofs.TextSteps.{part-to-end}
 
 no-grouping : (kind : Option KindNamed) (input : List ℕ) → answer-of kind (Err Usage) input ≡ Err Usage
@@ -61,3 +66,9 @@ module _ {X : Type 0} (bytes : X → List ℕ) where
       (ap kind-named (word-at words 0 first (omega arith) e₀) ∙ sym k)
       (ap₂ chosen-from (ap rule-named (word-at words 1 second (omega arith) e₁) ∙ sym r)
       (ap numbers-from (drop-map bytes 2 words ∙ ap (map bytes) (sym (part-to-end 2 words))) ∙ n))
+
+pub rows-shared-within-spread : Rows-shared-within-spread
+rows-shared-within-spread (ByDraws u) = spread-of-all-rows (universal-groups u) (2 ^ 30)
+rows-shared-within-spread (ByDigits p) =
+    let parts = fit-parts (p .rows) (p .width) (p .span) (p .fit) in
+    polynomial-spread-law (p .rows) (p .width) (p .span) (parts .few-rows) (parts .a-width) (parts .small-span)

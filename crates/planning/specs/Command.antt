@@ -10,7 +10,7 @@ use Rattle.std.specs.declared.option.Option.the-variants.{Some, None}
 use Rattle.std.specs.declared.result.Result.{Result}
 use Rattle.std.specs.declared.result.Result.the-variants.{Ok, Err}
 use Rattle.model.specs.Kind.{Kind}
-use Rattle.model.specs.Grouping.{Groups}
+use Rattle.model.specs.Grouping.{Groups, Spread}
 use Rattle.model.specs.Polynomial.{polynomial-spread}
 use Rattle.refusal.specs.declared.Refusal.{Refusal}
 use Rattle.refusal.specs.declared.Refusal.the-variants.{SpanBelowCodes}
@@ -35,14 +35,29 @@ Tells bytes (Err Usage) told = told ≡ Err Usage
 Tells bytes (Err (Refused refusal)) told = told ≡ Err (Refused refusal)
 Tells bytes (Err NoMemory) told = Unit {0}
 
+abbrev pub chosen-groups : Chosen → Groups
+chosen-groups (ByDraws u) = universal-groups u
+chosen-groups (ByDigits p) = polynomial-groups p
+
+abbrev pub chosen-span : Chosen → ℕ
+chosen-span (ByDraws u) = 2 ^ 30
+chosen-span (ByDigits p) = p .span
+
+abbrev pub chosen-spread : Chosen → ℕ
+chosen-spread (ByDraws u) = u .rows
+chosen-spread (ByDigits p) = polynomial-spread (p .rows) (p .width) (p .span)
+
+-- two different codes below the span never share more rows than the spread that is told beside them
+abbrev pub Rows-shared-within-spread : Type 0
+Rows-shared-within-spread = (chosen : Chosen) → Spread (chosen-groups chosen) (chosen-span chosen) (chosen-spread chosen)
+
 module _ {K : Type 0} (kind : Kind K) (typed : ℕ → List ℕ → Result K Refusal) where
   -- a grouping whose span is below the kind's number of codes makes no plan
   abbrev pub answer-by : Groups → (span spread : ℕ) → List ℕ → Result (List ℕ) Misuse
   answer-by g span spread input = cond (ltb span (kind .codes)) (Err (Refused SpanBelowCodes)) (Ok (description kind typed g spread input))
 
   abbrev pub answer-for : Chosen → List ℕ → Result (List ℕ) Misuse
-  answer-for (ByDraws u) input = answer-by (universal-groups u) (2 ^ 30) (u .rows) input
-  answer-for (ByDigits p) input = answer-by (polynomial-groups p) (p .span) (polynomial-spread (p .rows) (p .width) (p .span)) input
+  answer-for chosen input = answer-by (chosen-groups chosen) (chosen-span chosen) (chosen-spread chosen) input
 
 abbrev pub answer-of : Option KindNamed → Result Chosen Misuse → List ℕ → Result (List ℕ) Misuse
 answer-of None grouping input = Err Usage

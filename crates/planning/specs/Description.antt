@@ -1,9 +1,11 @@
 -- All that the planner's tool says of a text of keys.
+use mathlib.Core.Bool.{cond}
 use mathlib.Core.List.{List, [], _∷_, _++_}
 use Prim.Native.Nat.{ℕ, _+_, _-_}
 use lib.ListN.{length}
 use Rattle.std.specs.declared.result.Result.{Result}
 use Rattle.std.specs.declared.result.Result.the-variants.{Ok, Err}
+use Rattle.model.specs.Counting.{among}
 use Rattle.model.specs.Kind.{Kind}
 use Rattle.model.specs.Grouping.{Groups}
 use Rattle.refusal.specs.declared.Refusal.{Refusal}
@@ -20,6 +22,19 @@ module _ (g : Groups) (spread : ℕ) where
   abbrev pub all-shared : List ℕ → List ℕ
   all-shared [] = []
   all-shared (code ∷ others) = shared-with code others ++ all-shared others
+
+-- the code, unless it has been seen
+abbrev pub new-code : List ℕ → ℕ → List ℕ
+new-code seen code = cond (among seen code) [] (code ∷ [])
+
+-- the codes that have not been seen, each once
+abbrev pub new-codes : List ℕ → List ℕ → List ℕ
+new-codes seen [] = []
+new-codes seen (code ∷ codes) = new-code seen code ++ new-codes (seen ++ new-code seen code) codes
+
+-- each code once, where it stands first
+abbrev pub distinct : List ℕ → List ℕ
+distinct codes = new-codes [] codes
 
 module _ {K : Type 0} (kind : Kind K) (typed : ℕ → List ℕ → Result K Refusal) where
   -- the code of the key that a line has, if it has one
@@ -46,5 +61,5 @@ module _ {K : Type 0} (kind : Kind K) (typed : ℕ → List ℕ → Result K Ref
     abbrev pub description : ℕ → List ℕ → List ℕ
     description spread text =
         lines-said 1 (lines text)
-        ++ (all-shared g spread (codes-read 1 (lines text))
+        ++ (all-shared g spread (distinct (codes-read 1 (lines text)))
         ++ closing-sentence (length (codes-read 1 (lines text))) (length (lines text) - length (codes-read 1 (lines text))))

@@ -1,6 +1,6 @@
 -- The sentences that the planner's tool writes, each ended by a line feed.
 use mathlib.Core.Path.{_≡_}
-use mathlib.Core.Bool.{cond, _||_}
+use mathlib.Core.Bool.{cond}
 use mathlib.Core.List.{List, [], _∷_, _++_}
 use Prim.Native.Nat.{ℕ}
 use lib.Chars.{codes}
@@ -25,13 +25,13 @@ key-sentence g code = key-start code ++ (spaced (groups-of g code) ++ (10 ∷ []
 
 abbrev pub sharing : (code other rows spread : ℕ) → List ℕ
 sharing code other rows spread =
-    codes "codes " ++ (decimal code ++ (codes " and " ++ (decimal other ++ (codes " share " ++ (decimal rows
-    ++ (codes " rows, at most " ++ (decimal spread ++ (10 ∷ []))))))))
+    codes "codes " ++ (decimal code ++ (codes " and " ++ (decimal other ++ (codes ": rows shared " ++ (decimal rows
+    ++ (codes ", spread " ++ (decimal spread ++ (10 ∷ []))))))))
 
--- said of two different codes that share a group in some row
+-- said of two codes that share a group in some row
 abbrev pub shared-sentence : Groups → ℕ → ℕ → ℕ → List ℕ
 shared-sentence g spread code other =
-    cond (eqb code other || eqb (shared-rows g code other) 0) [] (sharing code other (shared-rows g code other) spread)
+    cond (eqb (shared-rows g code other) 0) [] (sharing code other (shared-rows g code other) spread)
 
 -- what a refused line lacks
 abbrev pub line-fault : Refusal → List ℕ

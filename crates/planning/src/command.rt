@@ -3,7 +3,7 @@ ghost use mathlib.Core.List.{map};
 ghost use Rattle.std.specs.Of.String.{string-bytes};
 ghost use Rattle.std.specs.declared.option.Option.the-variants.{Some};
 ghost use Rattle.planning.specs.Arguments.{chosen-from};
-ghost use Rattle.planning.specs.Command.{Tells, answer-by, answer-for, answer-of, answer-to};
+ghost use Rattle.planning.specs.Command.{Tells, answer-by, answer-for, answer-of, answer-to, Rows-shared-within-spread};
 
 use crate::arguments::Chosen;
 use crate::arguments::KindNamed;
@@ -67,7 +67,8 @@ fn answer_of(heap: Global, kind: KindNamed, grouping: Result<Chosen, Misuse>, in
 
 /// What the tool says of a text of keys under the plan that the words ask for, or why it says nothing.
 pub fn answer(heap: Global, words: &[String], input: &[u8]) -> Result<String, Misuse>
-    ensures { λ r. ⌜ Tells string-bytes r (answer-to (map string-bytes (now (words .entry))) (now (input .entry))) ⌝ }
+    ensures rows_shared_within_spread { λ _. ⌜ Rows-shared-within-spread ⌝ }
+    ensures told { λ r. ⌜ Tells string-bytes r (answer-to (map string-bytes (now (words .entry))) (now (input .entry))) ⌝ }
 {
     if words.len() < 2 {
         return Err(Misuse::Usage);

@@ -5,9 +5,10 @@ ghost use lib.ListN.{length};
 ghost use Rattle.std.specs.Of.String.{string-bytes};
 ghost use Rattle.std.specs.Of.Vec.{vec-items};
 ghost use Rattle.std.specs.Vec.{made};
+ghost use Rattle.model.specs.Counting.{among};
 ghost use Rattle.planning.specs.Text.{lines};
 ghost use Rattle.planning.specs.Sentences.{Adds};
-ghost use Rattle.planning.specs.Description.{code-read, codes-read, line-said, lines-said, shared-with, all-shared, description};
+ghost use Rattle.planning.specs.Description.{code-read, codes-read, line-said, lines-said, shared-with, all-shared, new-code, distinct, description};
 use crate::sentences::write_closing;
 use crate::sentences::write_key;
 use crate::sentences::write_refused;
@@ -42,6 +43,42 @@ fn write_all_shared<G: Grouping>(out: &mut String, grouping: &G, codes: &[u32]) 
         write_shared_with(out, grouping, codes[i], &codes[i + 1..])?;
     }
     Ok(())
+}
+
+// Whether a code stands in a list.
+fn stands_in(codes: &[u32], code: u32) -> bool
+    ensures { λ r. ⌜ r ≡ among (now (codes .entry)) code ⌝ }
+{
+    for c in codes {
+        if *c == code {
+            return true;
+        }
+    }
+    false
+}
+
+// A code more, unless it stands there.
+fn add_new(codes: &mut Vec<u32>, code: u32) -> fmt::Result
+    ensures { λ r. ⌜ Adds r (vec-items (now (codes .entry))) (new-code (vec-items (now (codes .entry))) code) (vec-items (now (codes .exit))) ⌝ }
+{
+    if stands_in(codes.as_slice(), code) {
+        return Ok(());
+    }
+    match codes.push(code) {
+        Ok(()) => Ok(()),
+        Err(_) => Err(fmt::Error),
+    }
+}
+
+// Each code once, where it stands first.
+fn distinct_of(heap: Global, codes: &[u32]) -> Result<Vec<u32>, fmt::Error>
+    ensures { λ r. ⌜ made r (λ once. vec-items once ≡ distinct (now (codes .entry))) ⌝ }
+{
+    let mut once = Vec::new(heap);
+    for code in codes {
+        add_new(&mut once, *code)?;
+    }
+    Ok(once)
 }
 
 // One line: what is said of it, and its key's code after those read so far.
@@ -100,7 +137,8 @@ pub(crate) fn describe<K: Typed, G: Grouping>(
     let mut out = String::new(heap);
     let mut codes = Vec::new(heap);
     let count = write_lines::<K, G>(&mut out, &mut codes, grouping, input)?;
-    write_all_shared(&mut out, grouping, codes.as_slice())?;
+    let once = distinct_of(heap, codes.as_slice())?;
+    write_all_shared(&mut out, grouping, once.as_slice())?;
     let keys = codes.len();
     write_closing(&mut out, keys, count - keys as u64)?;
     Ok(out)

@@ -19,7 +19,7 @@ pub(crate) fn write_key<G: Grouping>(out: &mut String, grouping: &G, code: u32) 
     writeln!(out)
 }
 
-// In how many rows two different codes share a group, and the spread that bounds it; nothing where they share none.
+// In how many rows two codes share a group, and the spread that bounds it; nothing where they share none.
 pub(crate) fn write_shared<G: Grouping>(
     out: &mut String,
     grouping: &G,
@@ -29,13 +29,13 @@ pub(crate) fn write_shared<G: Grouping>(
     ensures { λ r. ⌜ Adds r (string-bytes (now (out .entry))) (shared-sentence (G·Grouping .groups (now (grouping .entry))) (G·Grouping .spread (now (grouping .entry))) code other) (string-bytes (now (out .exit))) ⌝ }
 {
     let shared = shared_rows(grouping, code, other);
-    if code == other || shared == 0 {
+    if shared == 0 {
         return Ok(());
     }
     let spread = grouping.spread();
     writeln!(
         out,
-        "codes {code} and {other} share {shared} rows, at most {spread}"
+        "codes {code} and {other}: rows shared {shared}, spread {spread}"
     )
 }
 

@@ -18,6 +18,6 @@ pub returns : need.returns
 returns g c =
     let done = c .in-Continue-count .ensures tt in
     described (g .K·Key .kind) (g .K·Typed .typed) (g .G·Grouping .groups (c .args .grouping .now)) (g .G·Grouping .spread (c .args .grouping .now)) (c .args .input .now)
-    _ _ _ _ _ _ _ (c .len-keys .result) (c .in-Continue-count .count)
+    _ _ _ _ _ _ _ _ (c .len-keys .result) (c .in-Continue-count .count)
     (c .new-out .ensures .bytes) (done .said) (c .new-codes .ensures .items) (done .read) (c .as-slice .ensures .value)
-    (c .in-Continue-write-all-shared .ensures tt) (c .len-keys .ensures ∙ sym (c .as-slice .ensures .len)) (done .counted) (c .in-Continue-write-closing .ensures tt)
+    (c .as-slice-2 .ensures .value ∙ c .in-Continue-once .ensures tt) (c .in-Continue-write-all-shared .ensures tt) (c .len-keys .ensures ∙ sym (c .as-slice .ensures .len)) (done .counted) (c .in-Continue-write-closing .ensures tt)
