@@ -1,15 +1,18 @@
 -- What the parameters of a polynomial grouping fulfil, and that it is the one that they make.
-use mathlib.Core.Path.{_≡_, refl, sym, ap}
+use mathlib.Core.Path.{_≡_, refl, sym, ap, subst}
 use mathlib.Core.Bool.{Bool, true, _&&_, Bool-set}
 use mathlib.Core.HLevel.{isProp→PathP}
 use native.Mathlib.Nat.{ℕ-set}
+use native.Mathlib.Omega.{arith}
 use Prim.Native.Nat.{ℕ, _^_, _≤_}
 use lib.Dec.{leb}
 use borrow.Author.Tests.{leb-true, clash}
 use Rattle.std.specs.declared.option.Option.{Option}
 use Rattle.std.specs.declared.option.Option.the-variants.{Some, None}
 use Rattle.std.specs.declared.result.Result.the-variants.{Ok, Err}
-use Rattle.model.specs.Polynomial.{allowed-width, digit-count}
+use Rattle.model.specs.Polynomial.{allowed-width, digit-count, Least-digits}
+use Rattle.model.proofs.Inverses.{width-at-least-31}
+use Rattle.model.proofs.Digits.{digit-count-is-least}
 use Rattle.refusal.specs.Checks.{check, accepted}
 use Rattle.refusal.specs.declared.Refusal.{Refusal}
 use Rattle.refusal.specs.declared.Refusal.the-variants.{RowsOutOfRange, WidthNotAllowed, SpanOutOfRange}
@@ -50,3 +53,8 @@ made p (Some refusal) e h = absurd (clash h)
 -- a polynomial grouping is the one that its parameters make
 pub new-polynomial-is : (p : Polynomial) → new-polynomial (p .rows) (p .width) (p .span) ≡ Ok p
 new-polynomial-is p = made p (polynomial-refusal (p .rows) (p .width) (p .span)) refl (p .fit)
+
+pub least-digits : (width span digits : ℕ) → allowed-width width ≡ true → span ≤ 2 ^ 30 → digits ≡ digit-count width span → Least-digits width span digits
+least-digits width span digits allowed small counted =
+    let wide = width-at-least-31 width allowed in
+    subst (Least-digits width span) (sym counted) (digit-count-is-least width span (omega arith) small)

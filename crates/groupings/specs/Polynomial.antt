@@ -6,7 +6,7 @@ use Rattle.std.specs.declared.option.Option.the-variants.{Some, None}
 use Rattle.std.specs.declared.result.Result.{Result}
 use Rattle.std.specs.declared.result.Result.the-variants.{Ok, Err}
 use Rattle.model.specs.Grouping.{Groups}
-use Rattle.model.specs.Polynomial.{polynomial, digit-count}
+use Rattle.model.specs.Polynomial.{polynomial, digit-count, Least-digits}
 use Rattle.refusal.specs.Checks.{accepted}
 use Rattle.refusal.specs.declared.Refusal.{Refusal}
 use Rattle.groupings.specs.declared.polynomial.Polynomial.{Polynomial}
@@ -23,3 +23,8 @@ new-polynomial rows width span = polynomial-unless rows width span (polynomial-r
 
 abbrev pub polynomial-groups : Polynomial → Groups
 polynomial-groups p = polynomial (p .rows) (p .width) (p .span)
+
+-- a grouping that is made has the least number of digits that reaches its span
+abbrev pub Digits-are-least : Result Polynomial Refusal → Type 0
+Digits-are-least (Ok p) = Least-digits (p .width) (p .span) (p .digits)
+Digits-are-least (Err refusal) = Unit {0}

@@ -39,7 +39,8 @@ fn run(rt: &LibcRuntime) -> Result<(), AnyError> {
 fn meaning(refusal: &Refusal) -> &'static str {
     match refusal {
         Refusal::RowsOutOfRange => "rows are from 1 to 16",
-        Refusal::WidthNotAllowed => "a width is from 1 to 4096, and if polynomial 31, 61, 127, 251, 509, 1021, 2039 or 4093",
+        Refusal::WidthNotAllowed =>
+            "a width is from 1 to 4096, and if polynomial 31, 61, 127, 251, 509, 1021, 2039 or 4093",
         Refusal::DrawnNumberTooLarge => "a drawn number is below 2147483647",
         Refusal::SpanOutOfRange => "a span is from 1 to 1073741824",
         Refusal::SpanBelowCodes => "the span is below the number of codes of this kind of key",

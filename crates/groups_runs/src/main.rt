@@ -9,13 +9,28 @@ use std::error::AnyError;
 
 // Words of a command line, and the keys that it reads.
 const RUNS: [(&str, &str); 16] = [
-    ("stations universal 1 7 5 3", "10\n11\n17\n999999999\n1000000000\n4294967296\n\n 10\n10 \n0x10\n"),
+    (
+        "stations universal 1 7 5 3",
+        "10\n11\n17\n999999999\n1000000000\n4294967296\n\n 10\n10 \n0x10\n",
+    ),
     ("stations universal 1 7 2147483646 2", "1"),
     ("stations universal 2 7 5 3 2147483646 2", "10\n1\n10\n8\n"),
-    ("stations polynomial 3 1021 1000000000", "999999999\n0\n1021\n1042441\n"),
-    ("pairs universal 1 4096 1 0", "17 204\n0 4\n4 100\n1000 0\n0 1000\n17,204\n"),
-    ("pairs polynomial 6 61 1000000", "17 204\n400 5\n17 204\n442 921\n0 0\n"),
-    ("pairs polynomial 16 4093 1073741824", "999 999\n000000999 0999\n"),
+    (
+        "stations polynomial 3 1021 1000000000",
+        "999999999\n0\n1021\n1042441\n",
+    ),
+    (
+        "pairs universal 1 4096 1 0",
+        "17 204\n0 4\n4 100\n1000 0\n0 1000\n17,204\n",
+    ),
+    (
+        "pairs polynomial 6 61 1000000",
+        "17 204\n400 5\n17 204\n442 921\n0 0\n",
+    ),
+    (
+        "pairs polynomial 16 4093 1073741824",
+        "999 999\n000000999 0999\n",
+    ),
     ("pairs polynomial 17 61 1000000", ""),
     ("pairs polynomial 0 61 1000000", ""),
     ("pairs polynomial 6 60 1000000", ""),

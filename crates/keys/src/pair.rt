@@ -1,3 +1,4 @@
+ghost use mathlib.Core.Path.{_≡_};
 ghost use Prim.Native.Nat.{_<_};
 
 pub mod key;
@@ -9,4 +10,18 @@ pub struct Pair {
     destination: u32,
     ghost source_below: { source < 1000 },
     ghost destination_below: { destination < 1000 },
+}
+
+impl Pair {
+    pub fn source(&self) -> u32
+        ensures { λ r. ⌜ r ≡ now (self .entry) .source ⌝ }
+    {
+        self.source
+    }
+
+    pub fn destination(&self) -> u32
+        ensures { λ r. ⌜ r ≡ now (self .entry) .destination ⌝ }
+    {
+        self.destination
+    }
 }

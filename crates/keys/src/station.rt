@@ -1,3 +1,4 @@
+ghost use mathlib.Core.Path.{_≡_};
 ghost use Prim.Native.Nat.{_<_};
 
 pub mod key;
@@ -7,4 +8,12 @@ pub mod key;
 pub struct Station {
     number: u32,
     ghost below: { number < 1000000000 },
+}
+
+impl Station {
+    pub fn number(&self) -> u32
+        ensures { λ r. ⌜ r ≡ now (self .entry) .number ⌝ }
+    {
+        self.number
+    }
 }

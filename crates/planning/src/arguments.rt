@@ -5,7 +5,6 @@ ghost use Rattle.std.specs.Of.String.{string-bytes};
 ghost use Rattle.std.specs.Of.Vec.{vec-items};
 ghost use Rattle.std.specs.declared.option.Option.the-variants.{Some};
 ghost use Rattle.planning.specs.Arguments.{kind-named, rule-named, Reads, drawn-from, by-draws, universal-from, polynomial-from, chosen-from};
-
 use crate::text::number;
 use groupings::Draw;
 use groupings::Polynomial;
@@ -87,7 +86,11 @@ pub(crate) fn numbers_of(heap: Global, words: &[String]) -> Result<Vec<u32>, Mis
 fn number_at(numbers: &[u32], place: usize) -> u32
     ensures { λ r. ⌜ r ≡ getD (now (numbers .entry)) place 0 ⌝ }
 {
-    if place < numbers.len() { numbers[place] } else { 0 }
+    if place < numbers.len() {
+        numbers[place]
+    } else {
+        0
+    }
 }
 
 // The drawn numbers of 16 rows, which stand after the rows and the width; 0 where there are none.

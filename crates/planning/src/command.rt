@@ -4,7 +4,6 @@ ghost use Rattle.std.specs.Of.String.{string-bytes};
 ghost use Rattle.std.specs.declared.option.Option.the-variants.{Some};
 ghost use Rattle.planning.specs.Arguments.{chosen-from};
 ghost use Rattle.planning.specs.Command.{Tells, answer-by, answer-for, answer-of, answer-to, Rows-shared-within-spread};
-
 use crate::arguments::Chosen;
 use crate::arguments::KindNamed;
 use crate::arguments::Misuse;
@@ -31,7 +30,11 @@ use refusal::Refusal;
 use std::alloc::Global;
 
 // The keys of a text under a grouping, whose span has to reach all codes of the kind.
-fn answer_by<K: Typed, G: Grouping>(heap: Global, grouping: &G, input: &[u8]) -> Result<String, Misuse>
+fn answer_by<K: Typed, G: Grouping>(
+    heap: Global,
+    grouping: &G,
+    input: &[u8],
+) -> Result<String, Misuse>
     ensures { λ r. ⌜ Tells string-bytes r (answer-by (K·Key .kind) (K·Typed .typed) (G·Grouping .groups (now (grouping .entry))) (G·Grouping .span (now (grouping .entry))) (G·Grouping .spread (now (grouping .entry))) (now (input .entry))) ⌝ }
 {
     if grouping.span() < K::code_count() {
@@ -52,7 +55,12 @@ fn answer_for<K: Typed>(heap: Global, grouping: &Chosen, input: &[u8]) -> Result
     }
 }
 
-fn answer_of(heap: Global, kind: KindNamed, grouping: Result<Chosen, Misuse>, input: &[u8]) -> Result<String, Misuse>
+fn answer_of(
+    heap: Global,
+    kind: KindNamed,
+    grouping: Result<Chosen, Misuse>,
+    input: &[u8],
+) -> Result<String, Misuse>
     ensures { λ r. ⌜ Tells string-bytes r (answer-of (Some kind) grouping (now (input .entry))) ⌝ }
 {
     let chosen = match grouping {

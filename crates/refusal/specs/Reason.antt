@@ -15,7 +15,7 @@ pub record Reason : Type 0 where
   pub number : ℕ
   pub values : List ℕ
 
-abbrev says : ℕ → List ℕ → Reason
+abbrev pub says : ℕ → List ℕ → Reason
 says n vs = record { number = n; values = vs }
 
 -- 0 for the board written to or the only one, 1 for the other

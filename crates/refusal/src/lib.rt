@@ -1,7 +1,9 @@
 //! The reasons to refuse: one case for each, its number, the values in its brackets, and how it is written out.
 ghost use mathlib.Core.Path.{_≡_};
+ghost use mathlib.Core.List.{[], _∷_};
 ghost use Rattle.std.specs.declared.option.Option.the-variants.{Some};
-ghost use Rattle.refusal.specs.Reason.{cause-number, side-number, reason, listed, spelt};
+ghost use Rattle.std.specs.Written.{Prints};
+ghost use Rattle.refusal.specs.Reason.{cause-number, side-number, says, reason, listed, spelt};
 
 mod values;
 
@@ -74,6 +76,42 @@ pub enum Refusal {
 }
 
 impl Values {
+    fn none() -> Values
+        ensures { λ r. ⌜ listed r ≡ [] ⌝ }
+    {
+        Values {
+            places: [0, 0, 0, 0],
+            count: 0,
+        }
+    }
+
+    fn one(a: u64) -> Values
+        ensures { λ r. ⌜ listed r ≡ a ∷ [] ⌝ }
+    {
+        Values {
+            places: [a, 0, 0, 0],
+            count: 1,
+        }
+    }
+
+    fn two(a: u64, b: u64) -> Values
+        ensures { λ r. ⌜ listed r ≡ a ∷ b ∷ [] ⌝ }
+    {
+        Values {
+            places: [a, b, 0, 0],
+            count: 2,
+        }
+    }
+
+    fn four(a: u64, b: u64, c: u64, d: u64) -> Values
+        ensures { λ r. ⌜ listed r ≡ a ∷ b ∷ c ∷ d ∷ [] ⌝ }
+    {
+        Values {
+            places: [a, b, c, d],
+            count: 4,
+        }
+    }
+
     pub fn as_slice(&self) -> &[u64]
         ensures { λ r. ⌜ now r ≡ listed (now (self .entry)) ⌝ }
     {
@@ -134,49 +172,36 @@ impl Refusal {
         ensures { λ r. ⌜ listed r ≡ reason (now (self .entry)) .values ⌝ }
     {
         match self {
-            Refusal::WrongCellCount { brought, board } => Values {
-                places: [*brought as u64, board.number(), 0, 0],
-                count: 2,
-            },
-            Refusal::WrongPlanNumber { board } => Values {
-                places: [board.number(), 0, 0, 0],
-                count: 1,
-            },
+            Refusal::WrongCellCount { brought, board } => Values::two(
+                *brought as u64,
+                board.number(),
+            ),
+            Refusal::WrongPlanNumber { board } => Values::one(board.number()),
             Refusal::OutOfBalance {
                 cause,
                 row,
                 group,
                 cell,
-            } => Values {
-                places: [cause.number(), *row as u64, *group as u64, *cell as u64],
-                count: 4,
-            },
-            Refusal::BufferTooShort { needed } => Values {
-                places: [*needed as u64, 0, 0, 0],
-                count: 1,
-            },
-            Refusal::MessageMisshapen { bit_place } => Values {
-                places: [*bit_place, 0, 0, 0],
-                count: 1,
-            },
-            Refusal::PlanFieldDiffers { bit_place } => Values {
-                places: [*bit_place, 0, 0, 0],
-                count: 1,
-            },
-            Refusal::SectionUnsound { row, bit_place } => Values {
-                places: [*row as u64, *bit_place, 0, 0],
-                count: 2,
-            },
-            Refusal::WrongLineForm { line } => Values {
-                places: [*line, 0, 0, 0],
-                count: 1,
-            },
-            _ => Values {
-                places: [0, 0, 0, 0],
-                count: 0,
-            },
+            } => { Values::four(cause.number(), *row as u64, *group as u64, *cell as u64) }
+            Refusal::BufferTooShort { needed } => Values::one(*needed as u64),
+            Refusal::MessageMisshapen { bit_place } => Values::one(*bit_place),
+            Refusal::PlanFieldDiffers { bit_place } => Values::one(*bit_place),
+            Refusal::SectionUnsound { row, bit_place } => Values::two(*row as u64, *bit_place),
+            Refusal::WrongLineForm { line } => Values::one(*line),
+            _ => Values::none(),
         }
     }
+}
+
+// A number, and each value after a space.
+fn write_spelt<W: fmt::Write>(f: &mut fmt::Formatter<W>, number: u32, values: &[u64]) -> fmt::Result
+    ensures { λ r. ⌜ Prints (W·Write .took) (now (f .entry)) r (spelt (says number (now (values .entry)))) (now (f .exit)) ⌝ }
+{
+    write!(f, "{number}")?;
+    for value in values {
+        write!(f, " {value}")?;
+    }
+    Ok(())
 }
 
 /// The number and the values, parted by single spaces.
@@ -184,12 +209,7 @@ pub impl fmt::Display for Refusal as RefusalDisplay {
     ghost shown = { λ x. Some (spelt (reason x)) };
 
     fn fmt<W: fmt::Write>(&self, f: &mut fmt::Formatter<W>) -> fmt::Result {
-        let number = self.number();
-        write!(f, "{number}")?;
         let values = self.values();
-        for value in values.as_slice() {
-            write!(f, " {value}")?;
-        }
-        Ok(())
+        write_spelt(f, self.number(), values.as_slice())
     }
 }

@@ -1,7 +1,7 @@
 ghost use mathlib.Core.Path.{_≡_};
 ghost use Prim.Native.Nat.{_^_, _≤_};
-ghost use Rattle.model.specs.Polynomial.{allowed-width, digit-count, Least-digits, polynomial-spread};
-ghost use Rattle.groupings.specs.Polynomial.{new-polynomial, polynomial-groups};
+ghost use Rattle.model.specs.Polynomial.{allowed-width, digit-count, polynomial-spread};
+ghost use Rattle.groupings.specs.Polynomial.{new-polynomial, polynomial-groups, Digits-are-least};
 use super::super::Grouping;
 use super::Polynomial;
 use refusal::Refusal;
@@ -32,7 +32,8 @@ fn digit_count(width: usize, span: u32) -> u32
 
 impl Polynomial {
     pub fn new(rows: usize, width: usize, span: u32) -> Result<Polynomial, Refusal>
-        ensures { λ r. ⌜ r ≡ new-polynomial rows width span ⌝ }
+        ensures made { λ r. ⌜ r ≡ new-polynomial rows width span ⌝ }
+        ensures digits_are_least { λ r. ⌜ Digits-are-least r ⌝ }
     {
         if rows == 0 || rows > 16 {
             return Err(Refusal::RowsOutOfRange);
@@ -54,8 +55,7 @@ impl Polynomial {
 
     /// How many digits of a code are used.
     pub fn digits(&self) -> u32
-        ensures value { λ r. ⌜ r ≡ digit-count (now (self .entry) .width) (now (self .entry) .span) ⌝ }
-        ensures least { λ r. ⌜ Least-digits (now (self .entry) .width) (now (self .entry) .span) r ⌝ }
+        ensures { λ r. ⌜ r ≡ digit-count (now (self .entry) .width) (now (self .entry) .span) ⌝ }
     {
         self.digits
     }

@@ -16,18 +16,6 @@ impl Pair {
             destination,
         })
     }
-
-    pub fn source(&self) -> u32
-        ensures { λ r. ⌜ r ≡ now (self .entry) .source ⌝ }
-    {
-        self.source
-    }
-
-    pub fn destination(&self) -> u32
-        ensures { λ r. ⌜ r ≡ now (self .entry) .destination ⌝ }
-    {
-        self.destination
-    }
 }
 
 /// A pair's code is 1,000 times its source, and its destination.

@@ -13,12 +13,6 @@ impl Station {
         }
         Ok(Station { number })
     }
-
-    pub fn number(&self) -> u32
-        ensures { λ r. ⌜ r ≡ now (self .entry) .number ⌝ }
-    {
-        self.number
-    }
 }
 
 /// A station's number is its code.

@@ -24,7 +24,7 @@ returns-in-rest c =
     record {
       rows-shared-within-spread = rows-shared-within-spread;
       told = told-without-kind string-bytes (c .args .words .now) (c .args .input .now) (c .index-words-0 .result) (c .if-words-lt2 .left) (c .index-words-0 .is)
-        (c .in-rest .ensures tt ∙ ap kind-named (c .as-str .ensures .value));
+          (c .in-rest .ensures tt ∙ ap kind-named (c .as-str .ensures .value));
     }
 
 pub returns-in-Ok : need.returns-in-Ok
@@ -34,11 +34,11 @@ returns-in-Ok c =
     record {
       rows-shared-within-spread = rows-shared-within-spread;
       told = subst (λ (told : Result (List ℕ) Misuse). Tells string-bytes (c .answer-of .result) told)
-        (ap (λ g. answer-of (Some (c .in-Some .kind)) g input) grouping
-        ∙ sym (told-by-words string-bytes (c .args .words .now) input (c .index-words-0 .result) (c .index-words-1 .result) (Some (c .in-Some .kind)) (c .rule-of-rule .result) (Some (vec-items (c .in-Ok .numbers)))
+          (ap (λ g. answer-of (Some (c .in-Some .kind)) g input) grouping
+          ∙ sym (told-by-words string-bytes (c .args .words .now) input (c .index-words-0 .result) (c .index-words-1 .result) (Some (c .in-Some .kind)) (c .rule-of-rule .result) (Some (vec-items (c .in-Ok .numbers)))
           (c .if-words-lt2 .left) (c .index-words-0 .is) (c .index-words-1 .is)
           (c .in-Some .ensures tt ∙ ap kind-named (c .as-str .ensures .value)) (c .rule-of-rule .ensures ∙ ap rule-named (c .as-str-2 .ensures .value)) (c .in-Ok .ensures tt)))
-        (c .answer-of .ensures);
+          (c .answer-of .ensures);
     }
 
 pub returns-in-Err : need.returns-in-Err
@@ -46,7 +46,7 @@ returns-in-Err c =
     record {
       rows-shared-within-spread = rows-shared-within-spread;
       told = told-without-numbers (vec-items {X = ℕ} {Z = Global}) (string-bytes {Z = Global}) (c .in-Err .misuse) _ (Some (c .in-Some .kind)) (c .rule-of-rule .result) (c .args .input .now) _ (c .in-Err .ensures tt)
-        (told-by-words string-bytes (c .args .words .now) (c .args .input .now) (c .index-words-0 .result) (c .index-words-1 .result) (Some (c .in-Some .kind)) (c .rule-of-rule .result) None
+          (told-by-words string-bytes (c .args .words .now) (c .args .input .now) (c .index-words-0 .result) (c .index-words-1 .result) (Some (c .in-Some .kind)) (c .rule-of-rule .result) None
           (c .if-words-lt2 .left) (c .index-words-0 .is) (c .index-words-1 .is)
           (c .in-Some .ensures tt ∙ ap kind-named (c .as-str .ensures .value)) (c .rule-of-rule .ensures ∙ ap rule-named (c .as-str-2 .ensures .value)));
     }

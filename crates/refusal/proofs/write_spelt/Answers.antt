@@ -1,12 +1,11 @@
-use mathlib.Core.Path.{_≡_, refl, sym, ap, ap₂, _∙_}
+use mathlib.Core.Path.{refl, sym, ap}
 use mathlib.Core.List.{_++_}
-use native.Mathlib.Omega.{arith}
 use Rattle.std.specs.Written.{decimal}
 use Rattle.std.proofs.Writes.{wrote-none, put-more, put-is}
 use Rattle.std.proofs.shelf.Lists.{take-all}
 use Rattle.refusal.specs.Reason.{spaced}
 use Rattle.refusal.proofs.Spaced.{spaced-more}
-use Rattle.refusal.proofs.RefusalDisplay.fmt.Needs as need
+use Rattle.refusal.proofs.write_spelt.Needs as need
 
 pub loop-value-holds : need.loop-value-holds
 loop-value-holds g c = λ plain. record { wrote = wrote-none (g .W·Write .took) _; plain = plain }
@@ -21,6 +20,5 @@ pub returns : need.returns
 returns g c plain e =
     let number = c .in-Continue-write .ensures tt .shows plain refl in
     let values = c .loop-value .inv (number .plain) in
-    put-is (g .W·Write .took) _ _ _ _
-    (ap₂ (λ n vs. decimal n ++ spaced vs) (c .number-number .ensures) (take-all _ _ (c .loop-value-test .left) ∙ c .as-slice-value-items .ensures ∙ c .values-values .ensures))
+    put-is (g .W·Write .took) _ _ _ _ (ap (λ vs. decimal (c .args .number) ++ spaced vs) (take-all (c .loop-value .value-index) (c .args .values .now) (c .loop-value-test .left)))
     (put-more (g .W·Write .took) _ _ _ _ _ number values)
