@@ -1,8 +1,10 @@
 ghost use mathlib.Core.Path.{_≡_};
 ghost use mathlib.Core.List.{List};
-ghost use Prim.Native.Nat.{ℕ};
+ghost use Prim.Native.Nat.{ℕ, _+_};
+ghost use lib.ListN.{take, drop};
 ghost use Rattle.std.specs.declared.result.Result.{Result as Answer};
 ghost use Rattle.refusal.specs.declared.Refusal.{Refusal as Reason};
+ghost use Rattle.planning.specs.Text.{place, decimal-number};
 ghost use Rattle.planning.specs.Typed.{station-line, pair-from, pair-line};
 use crate::text::number;
 use crate::text::place_of;
@@ -34,6 +36,18 @@ pub impl Typed for Station as StationTyped {
     }
 }
 
+// The numbers before and after the first space, where there are such.
+fn two_numbers(text: &[u8]) -> (Option<u32>, Option<u32>)
+    ensures first { λ r. ⌜ r .0 ≡ decimal-number (take (place 32 (now (text .entry))) (now (text .entry))) ⌝ }
+    ensures second { λ r. ⌜ r .1 ≡ decimal-number (drop (place 32 (now (text .entry)) + 1) (now (text .entry))) ⌝ }
+{
+    let space = place_of(b' ', text);
+    if space == text.len() {
+        return (number(text), None);
+    }
+    (number(&text[0..space]), number(&text[space + 1..]))
+}
+
 // The pair of two numbers that were typed, if both were.
 fn pair_of(line: u64, source: Option<u32>, destination: Option<u32>) -> Result<Pair, Refusal>
     ensures { λ r. ⌜ r ≡ pair-from line source destination ⌝ }
@@ -49,10 +63,7 @@ pub impl Typed for Pair as PairTyped {
     ghost typed = { pair-line };
 
     fn from_line(line: u64, text: &[u8]) -> Result<Pair, Refusal> {
-        let space = place_of(b' ', text);
-        if space == text.len() {
-            return Err(Refusal::WrongLineForm { line });
-        }
-        pair_of(line, number(&text[0..space]), number(&text[space + 1..]))
+        let (source, destination) = two_numbers(text);
+        pair_of(line, source, destination)
     }
 }
