@@ -1,3 +1,4 @@
+pub mod Rows
 pub mod UniversalFit
 pub mod Universal
 pub mod PolynomialFit

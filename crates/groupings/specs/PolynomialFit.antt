@@ -8,11 +8,12 @@ use Rattle.model.specs.Polynomial.{allowed-width}
 use Rattle.refusal.specs.Checks.{check, accepted}
 use Rattle.refusal.specs.declared.Refusal.{Refusal}
 use Rattle.refusal.specs.declared.Refusal.the-variants.{RowsOutOfRange, WidthNotAllowed, SpanOutOfRange}
+use Rattle.groupings.specs.Rows.{rows-fit}
 
 -- the first refusal that applies
 abbrev pub polynomial-refusal : ℕ → ℕ → ℕ → Option Refusal
 polynomial-refusal rows width span =
-    check (leb 1 rows && leb rows 16) RowsOutOfRange
+    check (rows-fit rows) RowsOutOfRange
     (check (allowed-width width) WidthNotAllowed
     (check (leb 1 span && leb span (2 ^ 30)) SpanOutOfRange
     None))

@@ -10,6 +10,7 @@ use Rattle.model.specs.Universal.{prime}
 use Rattle.refusal.specs.Checks.{check, accepted}
 use Rattle.refusal.specs.declared.Refusal.{Refusal}
 use Rattle.refusal.specs.declared.Refusal.the-variants.{RowsOutOfRange, WidthNotAllowed, DrawnNumberTooLarge}
+use Rattle.groupings.specs.Rows.{rows-fit}
 use Rattle.groupings.specs.declared.universal.Draw.{Draw}
 
 -- every drawn number is below the prime
@@ -20,7 +21,7 @@ drawn-fit (draw ∷ drawn) = (ltb (draw .a) prime && ltb (draw .b) prime) && dra
 -- the first refusal that applies; only the drawn numbers of used rows are looked at
 abbrev pub universal-refusal : ℕ → ℕ → List Draw → Option Refusal
 universal-refusal rows width drawn =
-    check (leb 1 rows && leb rows 16) RowsOutOfRange
+    check (rows-fit rows) RowsOutOfRange
     (check (leb 1 width && leb width 4096) WidthNotAllowed
     (check (drawn-fit (take rows drawn)) DrawnNumberTooLarge
     None))

@@ -1,4 +1,4 @@
-//! Groupings: rows of groups for codes, with the law that two codes rarely share a group.
+//! Groupings: rows of groups for codes, and the law that bounds how many rows two codes share.
 ghost use mathlib.Core.Path.{_≡_};
 ghost use mathlib.Core.Logic.{_≢_};
 ghost use Prim.Native.Nat.{ℕ, _<_, _≤_};

@@ -5,7 +5,7 @@ ghost use Rattle.model.specs.Polynomial.{digit-count};
 
 pub mod grouping;
 
-/// The polynomial grouping of codes below a span. The digit count is found once, when it is made.
+/// The polynomial grouping. The digits of a code that its span asks for are counted once, when it is made.
 #[derive(Clone, Copy)]
 pub struct Polynomial {
     rows: usize,

@@ -1,6 +1,6 @@
 //! The planner's tool: which groups the keys on standard input have under the plan that the arguments ask for, and how
 //! many rows they share. What it prints is `planning::answer`; this program only moves bytes.
-use planning::Misuse;
+use planning::NoAnswer;
 use planning::answer;
 use refusal::Refusal;
 use refusal::RefusalDisplay;
@@ -23,14 +23,14 @@ fn run(rt: &LibcRuntime) -> Result<(), AnyError> {
     let heap = rt.alloc();
     let words: Vec<String> = env::args(rt)?.skip(1).collect(heap)?;
     // Wrong arguments are told before any input is waited for.
-    if let Err(misuse) = answer(heap, words.as_slice(), &[]) {
-        return Err(explained(rt, misuse)?);
+    if let Err(no_answer) = answer(heap, words.as_slice(), &[]) {
+        return Err(explained(rt, no_answer)?);
     }
     let mut input = Vec::new(heap);
     rt.stdin().read_to_end(&mut input)?;
     match answer(heap, words.as_slice(), input.as_slice()) {
         Ok(out) => print!(rt, "{out}")?,
-        Err(misuse) => return Err(explained(rt, misuse)?),
+        Err(no_answer) => return Err(explained(rt, no_answer)?),
     }
     Ok(())
 }
@@ -49,17 +49,17 @@ fn meaning(refusal: &Refusal) -> &'static str {
 }
 
 // Why there is no answer; the usage is printed where the words have the wrong form.
-fn explained(rt: &LibcRuntime, misuse: Misuse) -> Result<AnyError, AnyError> {
-    match misuse {
-        Misuse::Usage => {
+fn explained(rt: &LibcRuntime, no_answer: NoAnswer) -> Result<AnyError, AnyError> {
+    match no_answer {
+        NoAnswer::Usage => {
             eprintln!(rt, "{USAGE}")?;
             Ok("the arguments have the wrong form".into())
         }
-        Misuse::Refused(refusal) => {
+        NoAnswer::Refused(refusal) => {
             let reason = meaning(&refusal);
             let text = format!(rt.alloc(), "refusal {refusal}: {reason}")?;
             Ok(text.as_str().into())
         }
-        Misuse::NoMemory => Ok("memory ran out".into()),
+        NoAnswer::NoMemory => Ok("memory ran out".into()),
     }
 }

@@ -1,6 +1,6 @@
 //! The planner's tool over both kinds of key and both rules, with right and wrong words and lines: each command line, and
 //! what the tool answers to it.
-use planning::Misuse;
+use planning::NoAnswer;
 use planning::answer;
 use refusal::RefusalDisplay;
 use std::alloc::AllocError;
@@ -52,9 +52,9 @@ fn run(rt: &LibcRuntime) -> Result<(), AnyError> {
         let words = words_of(rt.alloc(), line)?;
         match answer(rt.alloc(), words.as_slice(), input.as_bytes()) {
             Ok(out) => print!(rt, "{out}")?,
-            Err(Misuse::Usage) => println!(rt, "wrong form")?,
-            Err(Misuse::Refused(refusal)) => println!(rt, "refusal {refusal}")?,
-            Err(Misuse::NoMemory) => println!(rt, "memory ran out")?,
+            Err(NoAnswer::Usage) => println!(rt, "wrong form")?,
+            Err(NoAnswer::Refused(refusal)) => println!(rt, "refusal {refusal}")?,
+            Err(NoAnswer::NoMemory) => println!(rt, "memory ran out")?,
         }
     }
     Ok(())

@@ -1,7 +1,7 @@
 -- Pairs: a source and a destination region, each from 0 to 999; the code is 1,000 × source + destination.
 use mathlib.Core.Path.{_≡_, refl}
 use mathlib.Core.Bool.{Bool, true, false}
-use Prim.Native.Nat.{ℕ, _+_, _*_, _/_, _%_, _<_}
+use Prim.Native.Nat.{ℕ, _+_, _*_, _/_, _%_}
 use lib.Dec.{ltb}
 use borrow.Author.Tests.{ltb-true}
 use Rattle.std.specs.declared.option.Option.{Option}

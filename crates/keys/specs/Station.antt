@@ -1,7 +1,7 @@
 -- Stations: a number from 0 to 999,999,999, which is its code.
 use mathlib.Core.Path.{_≡_, refl}
 use mathlib.Core.Bool.{Bool, true, false}
-use Prim.Native.Nat.{ℕ, _<_}
+use Prim.Native.Nat.{ℕ}
 use lib.Dec.{ltb}
 use borrow.Author.Tests.{ltb-true}
 use Rattle.std.specs.declared.option.Option.{Option}

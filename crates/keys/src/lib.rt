@@ -15,18 +15,18 @@ pub trait Key: Drop {
     /// How many bits a code has, at most 30.
     const BITS: usize;
 
-    /// How many codes there are: each code is below this.
+    /// Each code is below this.
     const CODES: u32;
 
     ghost kind: { Kind Self };
 
     law lawful: { Kind-laws kind };
 
-    /// `BITS`, as code for any kind can ask for it.
+    /// How many bits a code has, as code for any kind can ask for it: each kind answers its `BITS`.
     fn bit_count() -> usize
         ensures { λ r. ⌜ r ≡ kind .bits ⌝ };
 
-    /// `CODES`, as code for any kind can ask for it.
+    /// The number that each code is below, as code for any kind can ask for it: each kind answers its `CODES`.
     fn code_count() -> u32
         ensures { λ r. ⌜ r ≡ kind .codes ⌝ };
 

@@ -1,4 +1,4 @@
--- A grouping: rows of groups, and how rarely two codes share one.
+-- A grouping: rows of groups, and the law that bounds how many rows two codes share.
 use mathlib.Core.Path.{_≡_}
 use mathlib.Core.Logic.{_⊎_, _≢_}
 use mathlib.Core.Bool.{Bool, cond, _&&_}

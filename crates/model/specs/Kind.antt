@@ -4,8 +4,8 @@ use Prim.Native.Nat.{ℕ, _^_, _<_, _≤_}
 use Rattle.std.specs.declared.option.Option.{Option}
 use Rattle.std.specs.declared.option.Option.the-variants.{Some}
 
--- What a kind means: how many bits its codes have, how many codes there are, the code of each key, and the key of
--- each code that has one.
+-- What a kind means: how many bits its codes have, the number that all codes are below, the code of each key, and the
+-- key of each code that has one.
 pub record Kind (K : Type 0) : Type 0 where
   pub bits : ℕ
   pub codes : ℕ

@@ -1,11 +1,10 @@
 -- The polynomial grouping: a code's digits are the coefficients, and a row is the place where the polynomial is taken.
-use mathlib.Core.Path.{_≡_}
 use mathlib.Core.Bool.{Bool}
 use mathlib.Core.List.{List, [], _∷_}
-use Prim.Native.Nat.{ℕ, _+_, _-_, _*_, _/_, _%_, _^_, _<_, _≤_, min}
+use Prim.Native.Nat.{ℕ, _-_, _*_, _/_, _%_, _^_, _≤_, min}
 use lib.Dec.{leb}
 use Rattle.model.specs.Counting.{among, sum-below, least-from}
-use Rattle.model.specs.Grouping.{Groups, inside, Spread}
+use Rattle.model.specs.Grouping.{Groups, inside}
 
 -- the widths that a polynomial grouping may have
 abbrev pub widths : List ℕ

@@ -1,4 +1,2 @@
-pub mod TextSteps
-pub mod Adding
 pub mod Numbers
 pub mod CommandSteps

@@ -14,7 +14,7 @@ use Rattle.std.proofs.shelf.Equals.{sameBytes-decides}
 use Rattle.std.proofs.shelf.Counted.{map-counting-more}
 use Rattle.std.proofs.shelf.Lists.{take-more, take-set, drop-more, drop-all}
 use Rattle.groupings.specs.declared.universal.Draw.{Draw}
-use Rattle.planning.specs.Text.{decimal-number}
+use Rattle.listing.specs.Text.{decimal-number}
 use Rattle.planning.specs.Arguments.{before, numbers-from}
 
 -- another word

@@ -18,9 +18,9 @@ use Rattle.groupings.specs.declared.universal.Universal.{Universal}
 use Rattle.groupings.specs.declared.polynomial.Polynomial.{Polynomial}
 use Rattle.groupings.specs.Universal.{new-universal}
 use Rattle.groupings.specs.Polynomial.{new-polynomial}
-use Rattle.planning.specs.Text.{decimal-number}
-use Rattle.planning.specs.declared.arguments.Misuse.{Misuse}
-use Rattle.planning.specs.declared.arguments.Misuse.the-variants.{Usage, Refused, NoMemory}
+use Rattle.listing.specs.Text.{decimal-number}
+use Rattle.planning.specs.declared.arguments.NoAnswer.{NoAnswer}
+use Rattle.planning.specs.declared.arguments.NoAnswer.the-variants.{Usage, Refused, NoMemory}
 use Rattle.planning.specs.declared.arguments.KindNamed.{KindNamed}
 use Rattle.planning.specs.declared.arguments.KindNamed.the-variants.{Stations, Pairs}
 use Rattle.planning.specs.declared.arguments.RuleNamed.{RuleNamed}
@@ -45,7 +45,7 @@ numbers-from [] = Some []
 numbers-from (word ∷ words) = before (decimal-number word) (numbers-from words)
 
 -- what reading numbers answers, unless memory runs out
-abbrev pub Reads : {V : Type 0} → (V → List ℕ) → Result V Misuse → List (List ℕ) → Type 0
+abbrev pub Reads : {V : Type 0} → (V → List ℕ) → Result V NoAnswer → List (List ℕ) → Type 0
 Reads items (Ok numbers) words = numbers-from words ≡ Some (items numbers)
 Reads items (Err Usage) words = numbers-from words ≡ None
 Reads items (Err (Refused refusal)) words = ⊥
@@ -55,25 +55,25 @@ Reads items (Err NoMemory) words = Unit {0}
 unfoldable pub drawn-from : List ℕ → List Draw
 drawn-from numbers = map (λ row. record { a = getD numbers (2 * row + 2) 0; b = getD numbers (2 * row + 3) 0 }) (counting 0 16)
 
-abbrev pub by-draws : Result Universal Refusal → Result Chosen Misuse
+abbrev pub by-draws : Result Universal Refusal → Result Chosen NoAnswer
 by-draws (Ok grouping) = Ok (ByDraws grouping)
 by-draws (Err refusal) = Err (Refused refusal)
 
-abbrev pub by-digits : Result Polynomial Refusal → Result Chosen Misuse
+abbrev pub by-digits : Result Polynomial Refusal → Result Chosen NoAnswer
 by-digits (Ok grouping) = Ok (ByDigits grouping)
 by-digits (Err refusal) = Err (Refused refusal)
 
 -- rows, width, and as many pairs of drawn numbers as rows
-abbrev pub universal-from : List ℕ → Result Chosen Misuse
+abbrev pub universal-from : List ℕ → Result Chosen NoAnswer
 universal-from numbers =
     cond (eqb (length numbers) (2 * getD numbers 0 0 + 2)) (by-draws (new-universal (getD numbers 0 0) (getD numbers 1 0) (drawn-from numbers))) (Err Usage)
 
 -- rows, width and span
-abbrev pub polynomial-from : List ℕ → Result Chosen Misuse
+abbrev pub polynomial-from : List ℕ → Result Chosen NoAnswer
 polynomial-from numbers =
     cond (eqb (length numbers) 3) (by-digits (new-polynomial (getD numbers 0 0) (getD numbers 1 0) (getD numbers 2 0))) (Err Usage)
 
-abbrev pub chosen-from : Option RuleNamed → Option (List ℕ) → Result Chosen Misuse
+abbrev pub chosen-from : Option RuleNamed → Option (List ℕ) → Result Chosen NoAnswer
 chosen-from None numbers = Err Usage
 chosen-from (Some rule) None = Err Usage
 chosen-from (Some Draws) (Some numbers) = universal-from numbers

@@ -1,6 +1,2 @@
-pub mod Text
-pub mod Typed
-pub mod Sentences
-pub mod Description
 pub mod Arguments
 pub mod Command

@@ -5,16 +5,16 @@ ghost use Rattle.std.specs.Of.String.{string-bytes};
 ghost use Rattle.std.specs.Of.Vec.{vec-items};
 ghost use Rattle.std.specs.declared.option.Option.the-variants.{Some};
 ghost use Rattle.planning.specs.Arguments.{kind-named, rule-named, Reads, drawn-from, by-draws, universal-from, polynomial-from, chosen-from};
-use crate::text::number;
 use groupings::Draw;
 use groupings::Polynomial;
 use groupings::Universal;
+use listing::number;
 use refusal::Refusal;
 use std::alloc::Global;
 
 /// Why arguments get no answer.
 #[derive(Clone, Copy)]
-pub enum Misuse {
+pub enum NoAnswer {
     /// The words are not of the form that the tool takes.
     Usage,
     /// No plan can have these parameters.
@@ -67,16 +67,16 @@ pub(crate) fn rule_of(word: &str) -> Option<RuleNamed>
 }
 
 // The numbers that words write, if each writes one.
-pub(crate) fn numbers_of(heap: Global, words: &[String]) -> Result<Vec<u32>, Misuse>
+pub(crate) fn numbers_of(heap: Global, words: &[String]) -> Result<Vec<u32>, NoAnswer>
     ensures { λ r. ⌜ Reads vec-items r (map string-bytes (now (words .entry))) ⌝ }
 {
     let mut numbers = Vec::new(heap);
     for word in words {
         let Some(n) = number(word.as_bytes()) else {
-            return Err(Misuse::Usage);
+            return Err(NoAnswer::Usage);
         };
         if numbers.push(n).is_err() {
-            return Err(Misuse::NoMemory);
+            return Err(NoAnswer::NoMemory);
         }
     }
     Ok(numbers)
@@ -107,48 +107,48 @@ fn drawn_of(numbers: &[u32]) -> [Draw; 16]
     drawn
 }
 
-fn by_draws(made: Result<Universal, Refusal>) -> Result<Chosen, Misuse>
-    ensures { λ r. ⌜ r ≡ by-draws made ⌝ }
+fn by_draws(grouping: Result<Universal, Refusal>) -> Result<Chosen, NoAnswer>
+    ensures { λ r. ⌜ r ≡ by-draws grouping ⌝ }
 {
-    match made {
-        Ok(grouping) => Ok(Chosen::ByDraws(grouping)),
-        Err(refusal) => Err(Misuse::Refused(refusal)),
+    match grouping {
+        Ok(universal) => Ok(Chosen::ByDraws(universal)),
+        Err(refusal) => Err(NoAnswer::Refused(refusal)),
     }
 }
 
 // Rows, width, and two drawn numbers for each row.
-fn universal_of(numbers: &[u32]) -> Result<Chosen, Misuse>
+fn universal_of(numbers: &[u32]) -> Result<Chosen, NoAnswer>
     ensures { λ r. ⌜ r ≡ universal-from (now (numbers .entry)) ⌝ }
 {
     if numbers.len() < 2 {
-        return Err(Misuse::Usage);
+        return Err(NoAnswer::Usage);
     }
     if numbers.len() != 2 * numbers[0] as usize + 2 {
-        return Err(Misuse::Usage);
+        return Err(NoAnswer::Usage);
     }
     by_draws(Universal::new(numbers[0] as usize, numbers[1] as usize, drawn_of(numbers)))
 }
 
 // Rows, width and span.
-fn polynomial_of(numbers: &[u32]) -> Result<Chosen, Misuse>
+fn polynomial_of(numbers: &[u32]) -> Result<Chosen, NoAnswer>
     ensures { λ r. ⌜ r ≡ polynomial-from (now (numbers .entry)) ⌝ }
 {
     if numbers.len() != 3 {
-        return Err(Misuse::Usage);
+        return Err(NoAnswer::Usage);
     }
     match Polynomial::new(numbers[0] as usize, numbers[1] as usize, numbers[2]) {
         Ok(grouping) => Ok(Chosen::ByDigits(grouping)),
-        Err(refusal) => Err(Misuse::Refused(refusal)),
+        Err(refusal) => Err(NoAnswer::Refused(refusal)),
     }
 }
 
 // The grouping that a rule and numbers ask for.
-pub(crate) fn grouping_of(rule: Option<RuleNamed>, numbers: &[u32]) -> Result<Chosen, Misuse>
+pub(crate) fn grouping_of(rule: Option<RuleNamed>, numbers: &[u32]) -> Result<Chosen, NoAnswer>
     ensures { λ r. ⌜ r ≡ chosen-from rule (Some (now (numbers .entry))) ⌝ }
 {
     match rule {
         Some(RuleNamed::Draws) => universal_of(numbers),
         Some(RuleNamed::Digits) => polynomial_of(numbers),
-        None => Err(Misuse::Usage),
+        None => Err(NoAnswer::Usage),
     }
 }

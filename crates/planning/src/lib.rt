@@ -1,14 +1,6 @@
-//! What the planner's tool says of a plan: the code and the groups of each key, and which keys share groups.
-
+//! The planner's tool: what it answers to the words of a command line and a text of keys.
 mod arguments;
 mod command;
-mod description;
-mod sentences;
-mod text;
-mod typed;
 
-pub use arguments::Misuse;
+pub use arguments::NoAnswer;
 pub use command::answer;
-pub use typed::PairTyped;
-pub use typed::StationTyped;
-pub use typed::Typed;

@@ -35,44 +35,45 @@ pub enum Cause {
 /// Why a call refuses. A refused call leaves everything as it was.
 #[derive(Clone, Copy, PartialEq, Eq, Debug)]
 pub enum Refusal {
+    /// Rows are outside 1 to 16.
     RowsOutOfRange,
+    /// The width is outside 1 to 4,096, or none of the eight of a polynomial grouping.
     WidthNotAllowed,
+    /// A drawn number of a used row is 2,147,483,647 or more.
     DrawnNumberTooLarge,
+    /// The span of a polynomial grouping is outside 1 to 2^30.
     SpanOutOfRange,
+    /// A station number is above 999,999,999, or a region above 999.
     KeyOutOfRange,
+    /// The grouping's span is below the number of codes of the kind of key.
     SpanBelowCodes,
-    WrongCellCount {
-        brought: usize,
-        board: Side,
-    },
-    WrongPlanNumber {
-        board: Side,
-    },
+    /// So many cells were brought, which is not the plan's number.
+    WrongCellCount { brought: usize, board: Side },
+    /// The head has another plan number.
+    WrongPlanNumber { board: Side },
+    /// The weight is 0.
     ZeroWeight,
+    /// The level is outside 1 to 4,095.
     LevelOutOfRange,
+    /// The list is shorter than rows times the lesser of level and width.
     ListTooShort,
+    /// A report finds the board out of balance, here.
     OutOfBalance {
         cause: Cause,
         row: usize,
         group: usize,
         cell: usize,
     },
-    BufferTooShort {
-        needed: usize,
-    },
-    MessageMisshapen {
-        bit_place: u64,
-    },
-    PlanFieldDiffers {
-        bit_place: u64,
-    },
-    SectionUnsound {
-        row: usize,
-        bit_place: u64,
-    },
-    WrongLineForm {
-        line: u64,
-    },
+    /// The message buffer is too short; so many bytes are needed.
+    BufferTooShort { needed: usize },
+    /// The message ends too soon, has a spare bit set, or has bytes left over, from this bit on.
+    MessageMisshapen { bit_place: u64 },
+    /// The message's plan field at this bit differs from the plan in hand.
+    PlanFieldDiffers { bit_place: u64 },
+    /// The section of this row, at this bit, is unsound.
+    SectionUnsound { row: usize, bit_place: u64 },
+    /// The line of this number, from 1, has the wrong form.
+    WrongLineForm { line: u64 },
 }
 
 impl Values {

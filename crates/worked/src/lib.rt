@@ -1,4 +1,4 @@
-//! The worked numbers of the rules, all of them in one theorem, computed from the definitions that the contracts cite.
+//! The worked numbers of keys and groupings, together in one theorem, computed from the definitions that the contracts cite.
 ghost use Rattle.worked.specs.Worked.{Worked-numbers};
 
 /// Stands for the theorem that its contract names.

@@ -52,13 +52,6 @@ impl Polynomial {
             digits,
         })
     }
-
-    /// How many digits of a code are used.
-    pub fn digits(&self) -> u32
-        ensures { λ r. ⌜ r ≡ digit-count (now (self .entry) .width) (now (self .entry) .span) ⌝ }
-    {
-        self.digits
-    }
 }
 
 pub impl Grouping for Polynomial as PolynomialGrouping {

@@ -1,5 +1,5 @@
 ghost use mathlib.Core.Path.{_≡_};
-ghost use Prim.Native.Nat.{_^_};
+ghost use Rattle.model.specs.Universal.{universal-span};
 ghost use Rattle.groupings.specs.UniversalFit.{drawn-fit};
 ghost use Rattle.groupings.specs.Universal.{new-universal, universal-groups};
 use super::super::Grouping;
@@ -43,7 +43,7 @@ impl Universal {
 pub impl Grouping for Universal as UniversalGrouping {
     ghost groups = { universal-groups };
 
-    ghost span = { λ _. 2 ^ 30 };
+    ghost span = { λ _. universal-span };
 
     ghost spread = { λ u. u .rows };
 

@@ -18,7 +18,7 @@ impl Pair {
     }
 }
 
-/// A pair's code is 1,000 times its source, and its destination.
+/// A pair's code is 1,000 times its source plus its destination.
 pub impl Key for Pair as PairKey {
     const BITS: usize = 20;
 

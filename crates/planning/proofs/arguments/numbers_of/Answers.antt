@@ -1,6 +1,6 @@
 use mathlib.Core.Path.{_≡_, sym, ap, _∙_}
 use Rattle.std.specs.Of.String.{string-bytes}
-use Rattle.planning.specs.Text.{decimal-number}
+use Rattle.listing.specs.Text.{decimal-number}
 use Rattle.planning.proofs.Numbers.{number-here, no-number-here, numbers-all}
 use Rattle.planning.proofs.arguments.numbers_of.Needs as need
 

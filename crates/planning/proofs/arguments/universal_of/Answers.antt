@@ -6,7 +6,7 @@ use borrow.Author.Tests.{eq-eqb}
 use Rattle.std.specs.declared.result.Result.the-variants.{Err}
 use Rattle.groupings.specs.Universal.{new-universal}
 use Rattle.planning.specs.Arguments.{by-draws, drawn-from}
-use Rattle.planning.specs.declared.arguments.Misuse.the-variants.{Usage}
+use Rattle.planning.specs.declared.arguments.NoAnswer.the-variants.{Usage}
 use Rattle.planning.proofs.arguments.universal_of.Needs as need
 
 pub returns : need.returns

@@ -1,0 +1,4 @@
+pub mod Text
+pub mod Typed
+pub mod Sentences
+pub mod Description
