@@ -92,12 +92,12 @@ module _ {K : Type 0} (kind : Kind K) (laws : Kind-laws kind) (typed : ℕ → L
   codes-below line (text ∷ texts) code h = go (typed line text) (codes-below (line + 1) texts code) h
     where
       first : (key : K) (v : Bool) → (T v → code ≡ kind .code key) → (among (codes-read kind typed (line + 1) texts) code ≡ true → code < kind .codes)
-        → (v || among (codes-read kind typed (line + 1) texts) code) ≡ true → code < kind .codes
+          → (v || among (codes-read kind typed (line + 1) texts) code) ≡ true → code < kind .codes
       first key true is rest t = subst (λ c. c < kind .codes) (sym (is tt)) (laws .code-below-codes key)
       first key false is rest t = rest t
 
       go : (r : Result K Refusal) → (among (codes-read kind typed (line + 1) texts) code ≡ true → code < kind .codes)
-        → among (code-read kind r ++ codes-read kind typed (line + 1) texts) code ≡ true → code < kind .codes
+          → among (code-read kind r ++ codes-read kind typed (line + 1) texts) code ≡ true → code < kind .codes
       go (Ok key) rest t = first key (eqb code (kind .code key)) (eqb→eq code (kind .code key)) rest t
       go (Err refusal) rest t = rest t
 

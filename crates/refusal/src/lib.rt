@@ -48,9 +48,14 @@ pub enum Refusal {
     /// The grouping's span is below the number of codes of the kind of key.
     SpanBelowCodes,
     /// So many cells were brought, which is not the plan's number.
-    WrongCellCount { brought: usize, board: Side },
+    WrongCellCount {
+        brought: usize,
+        board: Side,
+    },
     /// The head has another plan number.
-    WrongPlanNumber { board: Side },
+    WrongPlanNumber {
+        board: Side,
+    },
     /// The weight is 0.
     ZeroWeight,
     /// The level is outside 1 to 4,095.
@@ -65,15 +70,26 @@ pub enum Refusal {
         cell: usize,
     },
     /// The message buffer is too short; so many bytes are needed.
-    BufferTooShort { needed: usize },
+    BufferTooShort {
+        needed: usize,
+    },
     /// The message ends too soon, has a spare bit set, or has bytes left over, from this bit on.
-    MessageMisshapen { bit_place: u64 },
+    MessageMisshapen {
+        bit_place: u64,
+    },
     /// The message's plan field at this bit differs from the plan in hand.
-    PlanFieldDiffers { bit_place: u64 },
+    PlanFieldDiffers {
+        bit_place: u64,
+    },
     /// The section of this row, at this bit, is unsound.
-    SectionUnsound { row: usize, bit_place: u64 },
+    SectionUnsound {
+        row: usize,
+        bit_place: u64,
+    },
     /// The line of this number, from 1, has the wrong form.
-    WrongLineForm { line: u64 },
+    WrongLineForm {
+        line: u64,
+    },
 }
 
 impl Values {

@@ -34,7 +34,7 @@ pub record Worked-numbers : Type 0 where
   pub the-number-after-it-is-refused : Refused 5 (new-station 1000000000)
   pub pair-17-204-has-code-17204 : Made (new-pair 17 204) (λ p. pair-kind .code p ≡ 17204)
   pub sixteen-rows-are-accepted :
-    Made (new-polynomial 16 61 1000000) (λ p. polynomial-groups p .rows ≡ 16) × Made (universal-with 16 7 5 3) (λ u. universal-groups u .rows ≡ 16)
+      Made (new-polynomial 16 61 1000000) (λ p. polynomial-groups p .rows ≡ 16) × Made (universal-with 16 7 5 3) (λ u. universal-groups u .rows ≡ 16)
   pub seventeen-rows-are-refused : Refused 1 (new-polynomial 17 61 1000000) × Refused 1 (universal-with 17 7 5 3)
   pub universal-group-of-10 : Made (universal-with 1 7 5 3) (λ u. universal-groups u .group 0 10 ≡ 4)
   pub universal-group-past-the-prime : Made (universal-with 1 7 2147483646 2) (λ u. universal-groups u .group 0 1 ≡ 1)
@@ -42,6 +42,6 @@ pub record Worked-numbers : Type 0 where
   pub six-rows-have-spread-3 : Made (new-polynomial 6 61 1000000) (λ p. polynomial-spread (p .rows) (p .width) (p .span) ≡ 3)
   pub three-digits-below-a-thousand-million : Made (new-polynomial 6 1021 1000000000) (λ p. p .digits ≡ 3)
   pub groups-of-17204 :
-    Made (new-polynomial 6 61 1000000) (λ p. groups-of (polynomial-groups p) 17204 ≡ 2 ∷ 44 ∷ 33 ∷ 30 ∷ 35 ∷ 48 ∷ [])
+      Made (new-polynomial 6 61 1000000) (λ p. groups-of (polynomial-groups p) 17204 ≡ 2 ∷ 44 ∷ 33 ∷ 30 ∷ 35 ∷ 48 ∷ [])
   pub groups-of-400005 :
-    Made (new-polynomial 6 61 1000000) (λ p. groups-of (polynomial-groups p) 400005 ≡ 28 ∷ 44 ∷ 36 ∷ 10 ∷ 33 ∷ 50 ∷ [])
+      Made (new-polynomial 6 61 1000000) (λ p. groups-of (polynomial-groups p) 400005 ≡ 28 ∷ 44 ∷ 36 ∷ 10 ∷ 33 ∷ 50 ∷ [])

@@ -25,9 +25,9 @@ loop-b-again c =
       omega (arith, c .min-value .ensures),
       sym (digits-here xs i (c .loop-b-test .taken) (sym (c .if-not-is-ascii-digit .ensures tt .value))) ∙ c .loop-b .inv .1,
       ap (λ n. min (value-after n (drop (i + 1) xs)) limit) (c .min-value .ensures)
-      ∙ limit-early more limit (drop (i + 1) xs)
-      ∙ ap (λ v. min v limit) (sym (value-here (c .loop-b .value) xs i (c .loop-b-test .taken)))
-      ∙ c .loop-b .inv .2,
+          ∙ limit-early more limit (drop (i + 1) xs)
+          ∙ ap (λ v. min v limit) (sym (value-here (c .loop-b .value) xs i (c .loop-b-test .taken)))
+          ∙ c .loop-b .inv .2,
     )
 
 pub returns-else-is-empty : need.returns-else-is-empty
