@@ -137,7 +137,7 @@ impl Values {
 }
 
 impl Side {
-    pub fn number(&self) -> u64
+    fn number(&self) -> u64
         ensures { λ r. ⌜ r ≡ side-number (now (self .entry)) ⌝ }
     {
         match self {
@@ -148,7 +148,7 @@ impl Side {
 }
 
 impl Cause {
-    pub fn number(&self) -> u64
+    fn number(&self) -> u64
         ensures { λ r. ⌜ r ≡ cause-number (now (self .entry)) ⌝ }
     {
         match self {
