@@ -1,5 +1,6 @@
 -- All that the planner's tool says of a text of keys.
-use mathlib.Core.Bool.{cond}
+use mathlib.Core.Path.{_≡_}
+use mathlib.Core.Bool.{cond, false}
 use mathlib.Core.List.{List, [], _∷_, _++_}
 use Prim.Native.Nat.{ℕ, _+_}
 use lib.ListN.{length}
@@ -35,6 +36,16 @@ new-codes seen (code ∷ codes) = new-code seen code ++ new-codes (seen ++ new-c
 -- each code once, where it stands first
 abbrev pub distinct : List ℕ → List ℕ
 distinct codes = new-codes [] codes
+
+-- no code stands twice
+abbrev pub None-twice : List ℕ → Type 0
+None-twice [] = Unit {0}
+None-twice (code ∷ codes) = (among codes code ≡ false) × None-twice codes
+
+-- a list has just the codes of another, and none twice
+pub record Each-once (codes once : List ℕ) : Type 0 where
+  pub same-codes : (code : ℕ) → among once code ≡ among codes code
+  pub none-twice : None-twice once
 
 module _ {K : Type 0} (kind : Kind K) where
   -- the code of the key that a line has, if it has one

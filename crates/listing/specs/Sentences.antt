@@ -12,7 +12,8 @@ use Rattle.model.specs.Grouping.{Groups, groups-of, shared-rows}
 use Rattle.refusal.specs.declared.Refusal.{Refusal}
 use Rattle.refusal.specs.Reason.{reason, spaced, spelt}
 
--- where a call answers `Ok`, it has added this to what was written; else memory ran out
+-- where a call answers `Ok`, it has added this to what was written; an error, which stands for want of memory, says nothing
+-- of that
 abbrev pub Adds : {E : Type 0} → Result (Unit {0}) E → List ℕ → List ℕ → List ℕ → Type 0
 Adds r before added after = made r (λ _. after ≡ before ++ added)
 

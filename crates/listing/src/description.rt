@@ -7,7 +7,7 @@ ghost use Rattle.std.specs.Vec.{made};
 ghost use Rattle.model.specs.Counting.{among};
 ghost use Rattle.listing.specs.Text.{lines};
 ghost use Rattle.listing.specs.Sentences.{Adds};
-ghost use Rattle.listing.specs.Description.{code-read, codes-read, line-said, lines-said, shared-with, all-shared, new-code, distinct, description};
+ghost use Rattle.listing.specs.Description.{code-read, codes-read, line-said, lines-said, shared-with, all-shared, new-code, distinct, Each-once, description};
 use crate::sentences::write_closing;
 use crate::sentences::write_key;
 use crate::sentences::write_refused;
@@ -130,7 +130,8 @@ pub fn describe<K: Typed, G: Grouping>(
     grouping: &G,
     input: &[u8],
 ) -> Result<String, fmt::Error>
-    ensures { λ r. ⌜ made r (λ out. string-bytes out ≡ description (K·Key .kind) (K·Typed .typed) (G·Grouping .groups (now (grouping .entry))) (G·Grouping .spread (now (grouping .entry))) (now (input .entry))) ⌝ }
+    ensures each_key_compared_once { λ r. ⌜ made r (λ _. Each-once (codes-read (K·Key .kind) (K·Typed .typed) 1 (lines (now (input .entry)))) (distinct (codes-read (K·Key .kind) (K·Typed .typed) 1 (lines (now (input .entry)))))) ⌝ }
+    ensures described { λ r. ⌜ made r (λ out. string-bytes out ≡ description (K·Key .kind) (K·Typed .typed) (G·Grouping .groups (now (grouping .entry))) (G·Grouping .spread (now (grouping .entry))) (now (input .entry))) ⌝ }
 {
     let mut out = String::new(heap);
     let mut codes = Vec::new(heap);

@@ -44,7 +44,7 @@ abbrev pub numbers-from : List (List ℕ) → Option (List ℕ)
 numbers-from [] = Some []
 numbers-from (word ∷ words) = before (decimal-number word) (numbers-from words)
 
--- what reading numbers answers, unless memory runs out
+-- reading numbers answers what the words write, or that memory ran out
 abbrev pub Reads : {V : Type 0} → (V → List ℕ) → Result V NoAnswer → List (List ℕ) → Type 0
 Reads items (Ok numbers) words = numbers-from words ≡ Some (items numbers)
 Reads items (Err Usage) words = numbers-from words ≡ None

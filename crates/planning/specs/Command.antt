@@ -32,7 +32,7 @@ use Rattle.planning.specs.declared.arguments.KindNamed.the-variants.{Stations,
 use Rattle.planning.specs.declared.arguments.Chosen.{Chosen}
 use Rattle.planning.specs.declared.arguments.Chosen.the-variants.{ByDraws, ByDigits}
 
--- a call answers what is told, unless memory runs out
+-- a call answers what is told, or that memory ran out
 abbrev pub Tells : {S : Type 0} → (S → List ℕ) → Result S NoAnswer → Result (List ℕ) NoAnswer → Type 0
 Tells bytes (Ok out) told = told ≡ Ok (bytes out)
 Tells bytes (Err Usage) told = told ≡ Err Usage
