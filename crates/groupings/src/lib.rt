@@ -1,4 +1,6 @@
 //! Groupings: rows of groups for codes, and the law that bounds how many rows two codes share.
+#![tactic(auto)]
+
 ghost use Rattle.std.specs.Prelude.{◌≡◌, ℕ, ◌<◌, ◌≤◌, ◌≢◌};
 ghost use Rattle.model.specs.Grouping.{Groups, GroupsLaws, Spread, shared_rows, OneGroupNeedsEveryRow};
 

@@ -1,4 +1,5 @@
 //! Tests of refusals, keys and groupings by their public calls.
+#![tactic(auto)]
 
 #[cfg(test)]
 mod tests {

@@ -1,5 +1,6 @@
 //! The planner's tool: which groups the keys on standard input have under the plan that the arguments ask for, and how
 //! many rows they share. What it prints is `planning::answer`; this program only moves bytes.
+#![tactic(auto)]
 use planning::{NoAnswer, answer};
 use refusal::Refusal;
 use std::env;

@@ -1,4 +1,6 @@
 //! Kinds of key: stations, and pairs of regions.
+#![tactic(auto)]
+
 ghost use Rattle.std.specs.Prelude.{◌≡◌};
 ghost use Rattle.model.specs.Kind.{Kind, KindLaws};
 

@@ -1,1 +1,2 @@
 //! What the words of the hot board mean, and what follows from their laws: definitions in specs/, lemmas in proofs/, no code.
+#![tactic(auto)]

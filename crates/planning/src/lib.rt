@@ -1,4 +1,5 @@
 //! The planner's tool: what it answers to the words of a command line and a text of keys.
+#![tactic(auto)]
 mod arguments;
 mod command;
 

@@ -1,4 +1,6 @@
 //! The reasons to refuse: one case for each, its number, the values in its brackets, and how it is written out.
+#![tactic(auto)]
+
 ghost use Rattle.std.specs.Prelude.{◌≡◌, [], ◌∷◌, Some};
 ghost use Rattle.std.specs.Fmt.{WritesOnOk};
 ghost use Rattle.refusal.specs.Reason.{cause_number, side_number, says, reason, listed, spelt};
