@@ -1,5 +1,6 @@
 //! The worked numbers of keys and groupings, together in one theorem, computed from the definitions that the contracts cite.
 #![tactic(auto)]
+
 ghost use Rattle.worked.specs.Worked.{WorkedNumbers};
 
 /// Stands for the theorem that its contract names.

@@ -7,8 +7,8 @@ use Rattle.model.proofs.Spread.{one_group_needs_every_row}
 use Rattle.groupings.proofs.shared_rows.Goals as goal
 use Rattle.groupings.proofs.shared_rows.Goals.{then-group, else-group}
 
-pub overflow-add-shared : goal.overflow-add-shared
-overflow-add-shared g c = omega (arith, c.rows-row-end.type-inv)
+pub overflow_add-shared : goal.overflow_add-shared
+overflow_add-shared g c = omega (arith, c.rows-row-end.type_inv)
 
 pub loop-row-preserved : goal.loop-row-preserved
 loop-row-preserved g c =
@@ -48,6 +48,6 @@ returns g c =
     subst (λ n. c.loop-row.shared ≡ count_below n (shares groups c.args.code c.args.other)) all c.loop-row.invariant.1 in
     record {
       value = is;
-      at-most-spread = λ hc ho ne. omega (arith, is, law.codes_share_few_rows c.args.code c.args.other hc ho ne);
+      at_most_spread = λ hc ho ne. omega (arith, is, law.codes_share_few_rows c.args.code c.args.other hc ho ne);
       one_group_needs_every_row = one_group_needs_every_row groups (g.G.Grouping.span grouping) (g.G.Grouping.spread grouping) law;
     }

@@ -6,6 +6,6 @@ pub returns-in-31 : goal.returns-in-31
 unfolding allowed_width
 returns-in-31 c = search rules
 
-pub returns-in-default : goal.returns-in-default
+pub returns-in_default : goal.returns-in_default
 unfolding allowed_width
-returns-in-default c = search rules
+returns-in_default c = search rules
