@@ -1,14 +1,14 @@
 -- What the parameters of a polynomial grouping fulfil, and that it is the one that they make.
-use Rattle.std.specs.Prelude.{◌≡◌, ℕ, ◌^◌, ◌≤◌, Bool, true, ◌&&◌, Some, None, Ok, Err, Option, nat_le, refl}
+use Rattle.std.specs.Prelude.{◌≡◌, ℕ, ◌^◌, ◌≤◌, true, ◌&&◌, Some, None, Ok, Option, nat_le, refl}
 use Rattle.std.proofs.Common.{sym, ap, subst, arith}
 use Rattle.std.proofs.Math.Bool.{Bool-set}
 use mathlib.Core.HLevel.{is_prop→PathP}
 use Rattle.std.proofs.Math.Nat.{ℕ_set}
-use borrow.Author.Tests.{leb-true, clash}
+use borrow.Author.Tests.{clash}
 use Rattle.model.specs.Polynomial.{allowed_width, digit_count, LeastDigits}
 use Rattle.model.proofs.Inverses.{width_at_least_31}
 use Rattle.model.proofs.Digits.{digit_count_is_least}
-use Rattle.refusal.specs.Checks.{check, accepted}
+use Rattle.refusal.specs.Checks.{accepted}
 use Rattle.refusal.specs.declared.Refusal.{Refusal}
 use Rattle.refusal.specs.declared.Refusal.TheVariants.{RowsOutOfRange, WidthNotAllowed, SpanOutOfRange}
 use Rattle.refusal.proofs.Checks.{check_passed}

@@ -1,6 +1,6 @@
 -- The laws of the kind of pairs.
 use Rattle.std.specs.Prelude.{◌≡◌, ℕ, ◌+◌, ◌*◌, ◌/◌, ◌%◌, Bool, true, false, ltb, Some, nat_lt, refl}
-use Rattle.std.proofs.Common.{sym, ap, arith, ltb-true, ltb-false}
+use Rattle.std.proofs.Common.{ap, arith, ltb-true, ltb-false}
 use Rattle.std.proofs.Math.Bridge.{le_prop}
 use Rattle.model.specs.Kind.{KindLaws}
 use Rattle.keys.specs.Pair.{pair_if, pair, pair_kind}

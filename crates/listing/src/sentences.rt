@@ -14,7 +14,7 @@ pub(crate) fn write_key<G: Grouping>(out: &mut String, grouping: &G, code: u32) 
         let group = grouping.group(row, code);
         write!(out, " {group}")?;
     }
-    writeln!(out)
+    Ok(writeln!(out)?)
 }
 
 // In how many rows two codes share a group, and the spread that bounds it; nothing where they share none.
@@ -31,10 +31,10 @@ pub(crate) fn write_shared<G: Grouping>(
         return Ok(());
     }
     let spread = grouping.spread();
-    writeln!(
+    Ok(writeln!(
         out,
         "codes {code} and {other}: rows shared {shared}, spread {spread}"
-    )
+    )?)
 }
 
 // What a refused line lacks.
@@ -53,12 +53,12 @@ pub(crate) fn write_refused(out: &mut String, line: u64, refusal: Refusal) -> fm
     ensures { Adds result (string_bytes out.old) (refused_sentence line refusal) (string_bytes out.new) }
 {
     let lacks = fault(&refusal);
-    writeln!(out, "line {line} refused: {refusal} ({lacks})")
+    Ok(writeln!(out, "line {line} refused: {refusal} ({lacks})")?)
 }
 
 // How many keys were read, and how many lines were refused.
 pub(crate) fn write_closing(out: &mut String, keys: usize, refused: u64) -> fmt::Result
     ensures { Adds result (string_bytes out.old) (closing_sentence keys refused) (string_bytes out.new) }
 {
-    writeln!(out, "keys read: {keys}, lines refused: {refused}")
+    Ok(writeln!(out, "keys read: {keys}, lines refused: {refused}")?)
 }

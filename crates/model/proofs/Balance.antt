@@ -1,13 +1,12 @@
 -- A board with plain counts is in balance, and its reports are accepted just when their level and list are fit.
-use Rattle.std.proofs.Common.{◌≡◌, ℕ, zero, suc, ◌^◌, ◌<◌, ◌≤◌, Bool, true, false, ◌&&◌, eqb, ltb, leb, List, is_ok, Some, None, Ok, Err, Decides, Option, Result, sym, refl, ap, ◌∙◌, ap₂, arith}
+use Rattle.std.proofs.Common.{◌≡◌, ℕ, zero, suc, ◌^◌, ◌<◌, ◌≤◌, Bool, true, false, ◌&&◌, eqb, ltb, leb, List, is_ok, None, Ok, Decides, Option, Result, sym, refl, ◌∙◌, ap₂, arith}
 use Rattle.std.proofs.lemmas.Bool.{cond-true, eq-eqb, lt-ltb, le-leb, leb-true, and_parts}
 use Rattle.refusal.specs.declared.Refusal.{Refusal}
 use Rattle.refusal.specs.declared.Refusal.TheVariants.{LevelOutOfRange, ListTooShort}
 use Rattle.refusal.specs.Checks.{check}
-use Rattle.model.specs.Counting.{sum_below, sum_where, or_else, first_below}
-use Rattle.model.specs.Grouping.{GroupsLaws}
+use Rattle.model.specs.Counting.{sum_below, or_else, first_below}
 use Rattle.model.specs.Plan.{Plan, PlanLaws, run, group_of, counts_in}
-use Rattle.model.specs.Board.{Board, unless, cell}
+use Rattle.model.specs.Board.{unless, cell}
 use Rattle.model.specs.Level.{fit_level, threshold, room}
 use Rattle.model.specs.Balance.{cell_fault, row_fault, fault}
 use Rattle.model.specs.Report.{hot_list, report_outcome}

@@ -6,8 +6,8 @@ use Rattle.std.proofs.lemmas.List.{length-replicate, get_or-replicate}
 use Rattle.std.proofs.lemmas.List.FromFn.{fill_by_all, length-map-range_with_len, get_or-map-range_with_len}
 use Rattle.std.proofs.lemmas.Bool.{cond-false, eq-eqb, ne_eqb}
 use Rattle.refusal.specs.declared.Refusal.{Refusal}
-use Rattle.model.specs.Counting.{integer_sum, integer_sum_where}
-use Rattle.model.specs.Kind.{Kind, KindLaws}
+use Rattle.model.specs.Counting.{integer_sum_where}
+use Rattle.model.specs.Kind.{KindLaws}
 use Rattle.model.specs.Plan.{Plan, cell_count, counts_at}
 use Rattle.model.specs.Board.{Board, sized, of_plan, board_refusal, blank, edited, updated, joined}
 use Rattle.model.specs.NetCounts.{Net, of_key, nothing, fed_key, by_code, net_total}

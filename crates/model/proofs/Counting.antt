@@ -1,5 +1,5 @@
 -- Sums, counts and the least number that passes a test.
-use Rattle.std.proofs.Common.{◌≡◌, ℕ, zero, suc, ◌+◌, ◌*◌, ◌<◌, ◌≤◌, Bool, true, false, cond, not, T, ◌⊎◌, sym, refl, ap, ◌∙◌, inl, inr, eq-or-lt_of_le, add-one, arith}
+use Rattle.std.proofs.Common.{◌≡◌, ℕ, zero, suc, ◌+◌, ◌*◌, ◌<◌, ◌≤◌, Bool, true, false, cond, not, T, ◌⊎◌, refl, inl, inr, eq-or-lt_of_le, add-one, arith}
 use native.Mathlib.Decide.{dec_lt}
 use Rattle.model.specs.Counting.{sum_below, count_below, least_from}
 

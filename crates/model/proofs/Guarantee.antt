@@ -1,11 +1,10 @@
 -- Every service is guaranteed: its boards are those that their net counts make, and those answer as promised.
-use Rattle.std.proofs.Common.{◌≡◌, ℕ, ◌+◌, ◌*◌, ◌^◌, ◌<◌, ◌≤◌, Bool, true, not, ◌&&◌, eqb, List, [], ◌∷◌, length, get_or, ℤ, pos, ◌<ℤ◌, is_ok, Ok, sym, refl, ap, ◌∙◌, ⊎_elim, le_trans, arith}
+use Rattle.std.proofs.Common.{◌≡◌, ℕ, ◌+◌, ◌*◌, ◌<◌, ◌≤◌, true, not, ◌&&◌, eqb, List, get_or, pos, ◌<ℤ◌, is_ok, Ok, sym, refl, ap, ⊎_elim, le_trans, arith}
 use mathlib.Core.Path.{fun_ext}
 use lib.Signed.{clash_ℤ}
 use Rattle.std.proofs.lemmas.Int.{ints}
 use Rattle.model.specs.Counting.{sum_where}
-use Rattle.model.specs.Kind.{KindLaws}
-use Rattle.model.specs.Grouping.{GroupsLaws, Spread, shares}
+use Rattle.model.specs.Grouping.{Spread, shares}
 use Rattle.model.specs.Plan.{Plan, PlanLaws}
 use Rattle.model.specs.Board.{Board, count_in_row, estimated, estimate_outcome}
 use Rattle.model.specs.Level.{fit_level, threshold, RowsEnough}

@@ -1,5 +1,5 @@
 -- A service of one insert meets every premise of the guarantee.
-use Rattle.std.proofs.Common.{◌≡◌, ℕ, ◌+◌, ◌*◌, ◌^◌, ◌<◌, ◌≤◌, Bool, true, false, cond, not, ◌&&◌, eqb, List, ℤ, pos, ◌+ℤ◌, ◌*ℤ◌, ◌≤ℤ◌, ◌<ℤ◌, sym, refl, ap, ◌∙◌, arith}
+use Rattle.std.proofs.Common.{◌≡◌, ℕ, ◌+◌, ◌*◌, ◌^◌, ◌<◌, ◌≤◌, Bool, true, false, cond, not, eqb, pos, ◌+ℤ◌, ◌*ℤ◌, ◌≤ℤ◌, ◌<ℤ◌, refl, ap, ◌∙◌, arith}
 use lib.IntN.{+ℤ_idl}
 use Rattle.std.proofs.lemmas.Int.{ints}
 use Rattle.std.proofs.lemmas.Bool.{eq-eqb, ne_eqb, and_right, leb-true, and_parts}
@@ -7,9 +7,9 @@ use Rattle.std.proofs.lemmas.Nat.{mul-le}
 use Rattle.model.specs.Counting.{integer_sum_where}
 use Rattle.model.specs.Kind.{KindLaws}
 use Rattle.model.specs.Plan.{Plan}
-use Rattle.model.specs.Level.{fit_level, Above, AtMost}
+use Rattle.model.specs.Level.{fit_level}
 use Rattle.model.specs.NetCounts.{Net, nothing, fed_key, net_counts, company, accompanies, by_code}
-use Rattle.model.specs.Guarantee.{PlainCounts, one_insert, OneInsertMeetsEveryPremise, EveryInsertMeetsEveryPremise}
+use Rattle.model.specs.Guarantee.{one_insert, OneInsertMeetsEveryPremise, EveryInsertMeetsEveryPremise}
 use Rattle.model.proofs.BoardOf.{key_load, key_total, none_total, none_at}
 use Rattle.model.proofs.IntegerSums.{of_same, of_zero}
 

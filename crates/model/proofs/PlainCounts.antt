@@ -1,14 +1,12 @@
 -- Where no net count is negative and their sum is below 2^63, totals and cells are plain sums and nothing wraps.
-use Rattle.std.proofs.Common.{◌≡◌, ℕ, zero, suc, ◌+◌, ◌-◌, ◌^◌, ◌<◌, ◌≤◌, Bool, true, false, cond, ◌&&◌, eqb, ℤ, pos, negsuc, ◌+ℤ◌, nat_abs, ◌≤ℤ◌, Some, None, Ok, Option, sym, refl, ap, ◌∙◌, ap₂, arith, w64}
+use Rattle.std.proofs.Common.{◌≡◌, ℕ, zero, suc, ◌+◌, ◌-◌, ◌<◌, ◌≤◌, Bool, true, false, cond, ◌&&◌, eqb, ℤ, pos, negsuc, ◌+ℤ◌, nat_abs, ◌≤ℤ◌, Some, None, Ok, Option, sym, refl, ap, ◌∙◌, ap₂, arith, w64}
 use mathlib.Core.Path.{fun_ext}
 use Rattle.std.proofs.lemmas.Int.{ints, clamps, to_z_pos}
 use Rattle.std.proofs.lemmas.Bool.{eq-eqb}
-use Rattle.model.specs.Counting.{sum_below, sum_where, integer_sum, integer_sum_where, least_to}
+use Rattle.model.specs.Counting.{sum_below, sum_where, integer_sum_where, least_to}
 use Rattle.model.specs.Words.{signed}
-use Rattle.model.specs.Kind.{KindLaws}
-use Rattle.model.specs.Grouping.{GroupsLaws}
 use Rattle.model.specs.Plan.{Plan, PlanLaws, run, place, group_of, counts_in}
-use Rattle.model.specs.Board.{Board, cell, count_in_row, estimated, estimate_outcome}
+use Rattle.model.specs.Board.{cell, count_in_row, estimated, estimate_outcome}
 use Rattle.model.specs.NetCounts.{Net, of_key, by_code, accompanies, company, least_company}
 use Rattle.model.specs.Guarantee.{PlainCounts}
 use Rattle.model.proofs.Wrapping.{wrap, wrap_small}

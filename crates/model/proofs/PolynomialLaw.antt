@@ -1,7 +1,7 @@
 -- Two different codes below the span share a group of the polynomial grouping in few rows.
-use Rattle.std.proofs.Common.{◌≡◌, ℕ, ◌*◌, ◌%◌, ◌^◌, ◌<◌, ◌≤◌, true, T, eqb, ◌≢◌, length, sym, ap, ◌∙◌, lt_of_lt_of_le, mod-lt, lt_of_not-le, arith, eqb→eq}
+use Rattle.std.proofs.Common.{◌≡◌, ℕ, ◌*◌, ◌%◌, ◌^◌, ◌<◌, ◌≤◌, true, T, eqb, ◌≢◌, sym, ap, ◌∙◌, lt_of_lt_of_le, mod-lt, lt_of_not-le, arith, eqb→eq}
 use Rattle.model.specs.Counting.{sum_below, count_below}
-use Rattle.model.specs.Grouping.{Groups, GroupsLaws, Spread, inside, shares, shared_rows}
+use Rattle.model.specs.Grouping.{GroupsLaws, Spread, inside, shares, shared_rows}
 use Rattle.model.specs.Polynomial.{digit, digit_count, polynomial_group, polynomial, polynomial_spread, allowed_width}
 use Rattle.model.proofs.Counting.{count_mono, count_at_most}
 use Rattle.model.proofs.Coefficients.{Inverses, agree, value, eqb_from_eq, same_from_agreement}

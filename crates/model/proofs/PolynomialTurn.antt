@@ -1,5 +1,5 @@
 -- One turn of the loop that sums up a code's digits times the powers of the row.
-use Rattle.std.proofs.Common.{◌≡◌, ℕ, ◌+◌, ◌*◌, ◌/◌, ◌%◌, ◌^◌, ◌<◌, sym, refl, ap, ◌∙◌, ap₂, mod-eq_of_lt, pow-suc, div-one, add-one, arith}
+use Rattle.std.proofs.Common.{◌≡◌, ℕ, ◌+◌, ◌*◌, ◌/◌, ◌%◌, ◌^◌, ◌<◌, sym, ap, ◌∙◌, ap₂, mod-eq_of_lt, pow-suc, div-one, add-one, arith}
 use native.Mathlib.Nat.{pow-zero, div-div-eq-div-mul, mod-add-div', zero-mod}
 use Rattle.model.specs.Counting.{sum_below}
 use Rattle.model.specs.Polynomial.{digit}

@@ -3,8 +3,6 @@ use Rattle.std.proofs.Common.{◌≡◌, ℕ, zero, suc, ◌-◌, ◌<◌, ◌�
 use Rattle.std.proofs.lemmas.Int.{ints, clamps}
 use Rattle.std.proofs.lemmas.Bool.{eq-eqb, lt-ltb, ltb-true, and_parts, and_from}
 use Rattle.model.specs.Counting.{among, all_below, least_to}
-use Rattle.model.specs.Kind.{KindLaws}
-use Rattle.model.specs.Grouping.{GroupsLaws}
 use Rattle.model.specs.Plan.{Plan, PlanLaws, group_of}
 use Rattle.model.specs.Board.{cell, count_in_row, estimated}
 use Rattle.model.specs.Report.{decoded, kept, sifted, found, row_list, hot_list}

@@ -1,6 +1,6 @@
 -- A service keeps every board at the one that its net counts make.
-use Rattle.std.proofs.Common.{◌≡◌, ℕ, ◌^◌, ◌<◌, Bool, true, false, cond, not, eqb, ◌≢◌, ◌⊎◌, List, [], ◌∷◌, length, ℤ, pos, neg_ℤ, Some, None, Ok, Err, Option, Result, sym, refl, ap, ◌∙◌, inl, inr, arith}
-use Rattle.std.specs.List.{AllByRecursion as All}
+use Rattle.std.proofs.Common.{◌≡◌, ℕ, ◌^◌, ◌<◌, Bool, true, false, cond, not, eqb, ◌≢◌, ◌⊎◌, List, [], ◌∷◌, length, ℤ, pos, Some, None, refl, inl, inr, arith}
+use Rattle.std.specs.List.{AllByRecursion}
 use Rattle.std.proofs.lemmas.Bool.{ne_eqb}
 use Rattle.refusal.specs.declared.Refusal.{Refusal}
 use Rattle.refusal.specs.declared.Refusal.TheVariants.{WrongCellCount, WrongPlanNumber, ZeroWeight}
@@ -8,11 +8,11 @@ use Rattle.refusal.specs.declared.Side.TheVariants.{Other}
 use Rattle.refusal.specs.Checks.{check}
 use Rattle.model.specs.Kind.{KindLaws}
 use Rattle.model.specs.Plan.{Plan, cell_count}
-use Rattle.model.specs.Board.{Board, unless, sized, of_plan, update_refusal, join_refusal, blank, updated, joined, open_outcome}
+use Rattle.model.specs.Board.{Board, unless, sized, update_refusal, join_refusal, blank, updated, joined, open_outcome}
 use Rattle.model.specs.Service.{Brought, board, unfit, Call, open_call, insert_call, remove_call, merge_call, subtract_call, estimate_call, report_call, put, brought, written, after_call, after_calls, served, Gets7Or8, OfService, IsService}
 use Rattle.model.specs.NetCounts.{Net, nothing, fed_key, fed_weight, fed_board, fed_open, fed, fed_all, net_counts}
 use Rattle.model.proofs.Wrapping.{Puts, adds, takes}
-use Rattle.model.proofs.BoardOf.{board_of, is_sized, is_of_plan, is_fit, blank_is, both, joined_is, updated_is}
+use Rattle.model.proofs.BoardOf.{board_of, is_sized, is_of_plan, blank_is, both, joined_is, updated_is}
 
 module _ {K : Type 0} (P : Plan K) (laws : KindLaws P.kind) where
   -- ---- one call
@@ -70,7 +70,7 @@ module _ {K : Type 0} (P : Plan K) (laws : KindLaws P.kind) where
   call_kept s n (estimate_call x k) d h = h
   call_kept s n (report_call x k m) d h = h
 
-  after_kept : (cs : List (Call K)) (s : ℕ → Board) (n : ℕ → Net K) → All (OfService P) cs → Kept s n → Kept (after_calls P s cs) (fed_all P n cs)
+  after_kept : (cs : List (Call K)) (s : ℕ → Board) (n : ℕ → Net K) → AllByRecursion (OfService P) cs → Kept s n → Kept (after_calls P s cs) (fed_all P n cs)
   after_kept [] s n d h = h
   after_kept (c ∷ cs) s n d h = after_kept cs (after_call P s c) (fed P n c) d.1 (call_kept s n c d.0 h)
 

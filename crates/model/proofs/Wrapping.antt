@@ -1,5 +1,5 @@
 -- An integer as a number of 64 bits, and what adding and taking off do to it.
-use Rattle.std.proofs.Common.{◌≡◌, ℕ, zero, suc, ◌+◌, ◌-◌, ◌*◌, ◌/◌, ◌%◌, ◌^◌, ◌<◌, ◌≤◌, ℤ, pos, negsuc, ◌+ℤ◌, neg_ℤ, sym, refl, ap, ◌∙◌, arith}
+use Rattle.std.proofs.Common.{◌≡◌, ℕ, suc, ◌+◌, ◌-◌, ◌*◌, ◌/◌, ◌%◌, ◌^◌, ◌<◌, ℤ, pos, negsuc, ◌+ℤ◌, neg_ℤ, sym, refl, ap, ◌∙◌, arith}
 use native.Mathlib.Nat.{add-mul-mod_self_right}
 use lib.IntN.{neg_ℤ-+ℤ, +ℤ_comm}
 use borrow.Author.Differences.{up, down}

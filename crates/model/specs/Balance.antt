@@ -1,8 +1,7 @@
 -- The balance of a board: the first fault that a report refuses.
-use Rattle.std.specs.Prelude.{ℕ, ◌^◌, cond, Some, None, Option, ◌==◌, nat_le, nat_lt}
+use Rattle.std.specs.Prelude.{ℕ, ◌^◌, None, Option, ◌==◌, nat_le, nat_lt}
 use Rattle.refusal.specs.declared.Refusal.{Refusal}
 use Rattle.refusal.specs.declared.Refusal.TheVariants.{OutOfBalance}
-use Rattle.refusal.specs.declared.Cause.{Cause}
 use Rattle.refusal.specs.declared.Cause.TheVariants.{TotalTooLarge, CellTooLarge, CellAboveCount, RowSumDiffers}
 use Rattle.refusal.specs.Checks.{check}
 use Rattle.model.specs.Counting.{sum_below, or_else, first_below}

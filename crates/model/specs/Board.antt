@@ -1,9 +1,8 @@
 -- Boards, and what each call that writes one leaves: a refusal, or the new board.
-use Rattle.std.specs.Prelude.{ℕ, ◌-◌, Bool, true, false, cond, not, List, map, length, replicate, ℤ, Some, None, Ok, Err, Option, Result, ◌==◌, slice_index}
+use Rattle.std.specs.Prelude.{ℕ, ◌-◌, Bool, cond, not, List, map, length, replicate, ℤ, Some, None, Ok, Err, Option, Result, ◌==◌, slice_index}
 use Rattle.std.specs.List.{range_with_len}
 use Rattle.refusal.specs.declared.Refusal.{Refusal}
 use Rattle.refusal.specs.declared.Refusal.TheVariants.{WrongCellCount, WrongPlanNumber, ZeroWeight}
-use Rattle.refusal.specs.declared.Side.{Side}
 use Rattle.refusal.specs.declared.Side.TheVariants.{Written, Other}
 use Rattle.refusal.specs.Checks.{check}
 use Rattle.model.specs.Counting.{least_to}

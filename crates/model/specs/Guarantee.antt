@@ -1,5 +1,5 @@
 -- What every service guarantees, said with net counts and company.
-use Rattle.std.specs.Prelude.{◌≡◌, ℕ, ◌^◌, ◌<◌, ◌≤◌, true, ◌≢◌, List, [], ◌∷◌, length, ℤ, pos, ◌+ℤ◌, ◌≤ℤ◌, is_ok, Ok, Decides, slice_index}
+use Rattle.std.specs.Prelude.{◌≡◌, ℕ, ◌^◌, ◌<◌, ◌≤◌, true, ◌≢◌, List, [], ◌∷◌, length, pos, ◌+ℤ◌, ◌≤ℤ◌, is_ok, Ok, Decides, slice_index}
 use Rattle.model.specs.Plan.{Plan}
 use Rattle.model.specs.Board.{Board, estimate_outcome, estimated}
 use Rattle.model.specs.Level.{fit_level, threshold, Above, AtMost, RowsEnough, room}

@@ -1,6 +1,6 @@
 -- A service: any list of calls on boards of one plan, and the boards after them.
 use Rattle.std.specs.Prelude.{ℕ, ◌^◌, ◌<◌, cond, ◌≢◌, ◌⊎◌, List, [], ◌∷◌, length, Ok, Err, Result, ◌==◌}
-use Rattle.std.specs.List.{AllByRecursion as All}
+use Rattle.std.specs.List.{AllByRecursion}
 use Rattle.refusal.specs.declared.Refusal.{Refusal}
 use Rattle.model.specs.Plan.{Plan, cell_count}
 use Rattle.model.specs.Board.{Board, blank, open_outcome, insert_outcome, remove_outcome, merge_outcome, subtract_outcome}
@@ -82,4 +82,4 @@ module _ {K : Type 0} (P : Plan K) where
   OfService (report_call x k places) = Gets7Or8 x
 
   abbrev pub IsService : List (Call K) → Type 0
-  IsService calls = All OfService calls
+  IsService calls = AllByRecursion OfService calls

@@ -1,5 +1,5 @@
 -- Checks that were passed.
-use Rattle.std.proofs.Common.{◌≡◌, Bool, true, false, Some, None, Option, refl, ap}
+use Rattle.std.proofs.Common.{◌≡◌, Bool, true, false, Some, None, Option, refl}
 use borrow.Author.Tests.{clash}
 use Rattle.refusal.specs.Checks.{check, accepted}
 use Rattle.refusal.specs.declared.Refusal.{Refusal}

@@ -1,4 +1,4 @@
-use Rattle.std.proofs.Common.{◌≡◌, ℕ, ◌+◌, sym, ◌∙◌, subst, arith, eqb→eq}
+use Rattle.std.proofs.Common.{◌≡◌, ℕ, sym, ◌∙◌, subst, arith, eqb→eq}
 use Rattle.model.specs.Counting.{count_below}
 use Rattle.model.specs.Grouping.{shares, shared_rows}
 use Rattle.model.proofs.Counting.{count_passes, count_fails}

@@ -8,8 +8,8 @@ pub loop-code-preserved : goal.loop-code-preserved
 loop-code-preserved c =
     let codes = c.args.codes.now in
     let i = c.loop-code.code-index in
-    let added = c.in-ok-add-new.ensures in
-    ap (λ seen. vec_items c.add-new.new.codes ++ new_codes seen (drop (i + 1) codes)) added
+    let added = c.in_ok-add_new.ensures in
+    ap (λ seen. vec_items c.add_new.new.codes ++ new_codes seen (drop (i + 1) codes)) added
     ∙ added_more _ _ _ _ _ _ c.loop-code.invariant (new_codes_here (vec_items c.loop-code.once) codes i c.loop-code-test.true) added
 
 pub returns : goal.returns

@@ -13,7 +13,7 @@ loop-i-preserved g c =
     let code = get_or codes c.loop-i.i 0 in
     added_more _ _ (shared_with groups spread code (drop (c.loop-i.i + 1) codes)) _ _ _ c.loop-i.invariant
     (all_shared_here groups spread codes c.loop-i.i c.loop-i-test.true)
-    (c.in-ok-write-shared-with.ensures ∙ ap (λ others. string_bytes c.loop-i.out ++ shared_with groups spread code others) (part_to_end (c.loop-i.i + 1) codes))
+    (c.in_ok-write_shared_with.ensures ∙ ap (λ others. string_bytes c.loop-i.out ++ shared_with groups spread code others) (part_to_end (c.loop-i.i + 1) codes))
 
 pub returns : goal.returns
 returns g c =

@@ -12,9 +12,9 @@ loop-start-preserved g c =
     let typed = g.K.Typed.typed in
     let groups = g.G.Grouping.groups c.args.grouping.now in
     let line : ℕ = c.loop-start.count + 1 in
-    let next = next_line c.args.input.now c.loop-start.start c.place-of.result c.loop-start-test.true c.place-of.ensures.value in (
-      added_more _ _ _ _ _ _ c.loop-start.invariant.0 (ap (lines_said kind typed groups line) next) c.in-ok-write-line.ensures.said,
-      added_more _ _ _ _ _ _ c.loop-start.invariant.1 (ap (codes_read kind typed line) next) c.in-ok-write-line.ensures.read,
+    let next = next_line c.args.input.now c.loop-start.start c.place_of.result c.loop-start-test.true c.place_of.ensures.value in (
+      added_more _ _ _ _ _ _ c.loop-start.invariant.0 (ap (lines_said kind typed groups line) next) c.in_ok-write_line.ensures.said,
+      added_more _ _ _ _ _ _ c.loop-start.invariant.1 (ap (codes_read kind typed line) next) c.in_ok-write_line.ensures.read,
       omega (arith, c.loop-start.invariant.2, ap length next),
       omega (arith, c.loop-start.invariant.3),
     )

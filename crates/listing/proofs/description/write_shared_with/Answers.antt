@@ -8,7 +8,7 @@ pub loop-other-preserved : goal.loop-other-preserved
 loop-other-preserved g c =
     added_more _ _ _ _ _ _ c.loop-other.invariant
     (shared_with_here (g.G.Grouping.groups c.args.grouping.now) (g.G.Grouping.spread c.args.grouping.now) c.args.code c.args.others.now c.loop-other.other-index c.loop-other-test.true)
-    c.in-ok-write-shared.ensures
+    c.in_ok-write_shared.ensures
 
 pub returns : goal.returns
 returns g c =

@@ -7,7 +7,7 @@ use Rattle.listing.proofs.typed.two_numbers.Goals as goal
 pub returns-then-space-text : goal.returns-then-space-text
 returns-then-space-text c =
     let text = c.args.text.now in
-    let space = c.place-of-space.ensures.value in
+    let space = c.place_of-space.ensures.value in
     let whole = take_all (place 32 text) text (omega (arith, space, c.if-space-text.true)) in
     let past = drop_all (place 32 text + 1) text (omega (arith, space, c.if-space-text.true)) in
     record { first = c.number.ensures ∙ ap decimal_number (sym whole); second = sym (ap decimal_number past) }
@@ -15,8 +15,8 @@ returns-then-space-text c =
 pub returns : goal.returns
 returns c =
     let text = c.args.text.now in
-    let space : ℕ = c.place-of-space.result in
-    let value = c.place-of-space.ensures.value in
+    let space : ℕ = c.place_of-space.result in
+    let value = c.place_of-space.ensures.value in
     let front : space - 0 ≡ place 32 text = omega (arith, value) in
     record {
       first = c.number-2.ensures ∙ ap (λ n. decimal_number (take n text)) front;

@@ -1,4 +1,4 @@
-use Rattle.std.proofs.Common.{ℕ, ◌*◌, ◌^◌, ◌<◌, ◌≤◌, mul-le-mul_left, arith, below_more}
+use Rattle.std.proofs.Common.{◌*◌, ◌^◌, ◌<◌, ◌≤◌, mul-le-mul_left, arith, below_more}
 use Rattle.model.proofs.Digits.{power_1, power_more, digit_count_unique}
 use Rattle.groupings.proofs.polynomial.grouping.digit_count.Goals as goal
 

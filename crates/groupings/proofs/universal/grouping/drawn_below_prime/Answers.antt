@@ -1,4 +1,4 @@
-use Rattle.std.proofs.Common.{◌≡◌, drop, sym, refl, ap, ◌∙◌}
+use Rattle.std.proofs.Common.{sym, ap, ◌∙◌}
 use Rattle.std.proofs.lemmas.List.{drop_all}
 use Rattle.groupings.specs.UniversalFit.{drawn_fit}
 use Rattle.groupings.proofs.UniversalFit.{fit_more, unfit_a, unfit_b}
