@@ -10,7 +10,7 @@ pub loop-row-preserved : goal.loop-row-preserved
 loop-row-preserved c =
     let drawn = c.loop-row.drawn in (
       length-set drawn c.loop-row.row _ ∙ c.loop-row.invariant.0,
-      drawn_more _ c.loop-row.row drawn _ (omega (arith, c.loop-row.invariant.0)) (λ i. record { a = c.number-at.ensures i; b = c.number-at-in-loop-row.ensures i }) c.loop-row.invariant.1,
+      drawn_more _ c.loop-row.row drawn _ (omega (arith, c.loop-row.invariant.0)) (λ i. record { a = c.number_at.ensures i; b = c.number_at-in-loop-row.ensures i }) c.loop-row.invariant.1,
     )
 
 pub returns : goal.returns

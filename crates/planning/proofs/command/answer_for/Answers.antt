@@ -10,5 +10,5 @@ returns-in-ByDraws g c =
 
 pub returns-in-ByDigits : goal.returns-in-ByDigits
 returns-in-ByDigits g c =
-    subst (λ (chosen : Chosen). Tells string_bytes c.answer-by-in-ByDigits.result (answer_for g.K.Key.kind g.K.Typed.typed chosen c.args.input.now))
-    (sym c.in-ByDigits.is) c.answer-by-in-ByDigits.ensures
+    subst (λ (chosen : Chosen). Tells string_bytes c.answer_by-in-ByDigits.result (answer_for g.K.Key.kind g.K.Typed.typed chosen c.args.input.now))
+    (sym c.in-ByDigits.is) c.answer_by-in-ByDigits.ensures
