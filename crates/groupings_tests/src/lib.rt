@@ -66,10 +66,7 @@ mod tests {
         assert_eq!(rt; Pair::new(1000, 0).err(), Some(Refusal::KeyOutOfRange));
         assert_eq!(rt; Pair::new(0, 1000).err(), Some(Refusal::KeyOutOfRange));
         assert!(rt; Pair::from_code(1_000_000).is_none());
-        let Some(last) = Pair::from_code(999_042) else {
-            assert!(rt; false, "a code without a key");
-            return Ok(());
-        };
+        let last = Pair::from_code(999_042).ok_or("a code without a key")?;
         assert_eq!(rt; (last.source(), last.destination()), (999, 42));
         Ok(())
     }

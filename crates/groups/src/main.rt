@@ -1,6 +1,8 @@
 //! The planner's tool: which groups the keys on standard input have under the plan that the arguments ask for, and how
 //! many rows they share. What it prints is `planning::answer`; this program only moves bytes.
 #![tactic(auto)]
+
+use anyhow::anyhow;
 use planning::{NoAnswer, answer};
 use refusal::Refusal;
 use std::env;
@@ -51,13 +53,12 @@ fn explained(rt: &HostRuntime, no_answer: NoAnswer) -> anyhow::Result<anyhow::Er
     match no_answer {
         NoAnswer::Usage => {
             eprintln!(rt; "{USAGE}")?;
-            Ok("the arguments have the wrong form".into())
+            Ok(anyhow!("the arguments have the wrong form"))
         }
         NoAnswer::Refused(refusal) => {
             let reason = meaning(&refusal);
-            let text = format!(in rt.alloc(); "refusal {refusal}: {reason}")?;
-            Ok(text.as_str().into())
+            Ok(anyhow!("refusal {refusal}: {reason}"))
         }
-        NoAnswer::NoMemory => Ok("memory ran out".into()),
+        NoAnswer::NoMemory => Ok(anyhow!("memory ran out")),
     }
 }

@@ -1,6 +1,7 @@
 //! The planner's tool over many command lines. Standard input is a script: what follows a `$` is a line of words, and
 //! then the keys that the command reads. It prints each command line, and what the tool answers to it.
 #![tactic(auto)]
+
 use planning::{NoAnswer, answer};
 use std::alloc::{AllocError, Global};
 use std::io::Read;

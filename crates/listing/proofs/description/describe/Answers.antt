@@ -1,4 +1,4 @@
-use Rattle.std.proofs.Common.{◌≡◌, ◌++◌, length, sym, ap, ◌∙◌, arith}
+use Rattle.std.proofs.Common.{◌++◌, length, sym, ap, ◌∙◌, arith}
 use Rattle.listing.specs.Text.{lines}
 use Rattle.listing.specs.Description.{codes_read}
 use Rattle.listing.proofs.Adding.{keys_and_refused, described}

@@ -1,4 +1,4 @@
-use Rattle.std.proofs.Common.{◌≡◌, ◌+◌, ◌++◌, length, get_or, drop, string_bytes, ap, ◌∙◌}
+use Rattle.std.proofs.Common.{◌+◌, ◌++◌, get_or, drop, string_bytes, ap, ◌∙◌}
 use Rattle.std.proofs.lemmas.List.{drop_all}
 use Rattle.listing.specs.Description.{shared_with, all_shared}
 use Rattle.listing.proofs.TextSteps.{part_to_end}

@@ -1,4 +1,4 @@
-use Rattle.std.proofs.Common.{◌≡◌, ℕ, ◌+◌, length, drop, ap, arith}
+use Rattle.std.proofs.Common.{ℕ, ◌+◌, length, ap, arith}
 use Rattle.std.proofs.lemmas.List.{drop_all}
 use Rattle.listing.specs.Text.{lines}
 use Rattle.listing.specs.Description.{lines_said, codes_read}

@@ -1,4 +1,4 @@
-use Rattle.std.proofs.Common.{◌≡◌, length, get_or, drop, ap}
+use Rattle.std.proofs.Common.{ap}
 use Rattle.std.proofs.lemmas.List.{drop_all}
 use Rattle.listing.specs.Description.{shared_with}
 use Rattle.listing.proofs.Adding.{shared_with_here, added_more, added_all}

@@ -1,4 +1,4 @@
-use Rattle.std.proofs.Common.{◌≡◌, string_bytes, sym, ap, ◌∙◌}
+use Rattle.std.proofs.Common.{string_bytes, ap, ◌∙◌}
 use Rattle.listing.specs.Text.{decimal_number}
 use Rattle.planning.proofs.Numbers.{number_here, no_number_here, numbers_all}
 use Rattle.planning.proofs.arguments.numbers_of.Goals as goal

@@ -1,4 +1,4 @@
-use Rattle.std.proofs.Common.{◌≡◌, ◌+◌, ◌*◌, cond, length, get_or, Err, sym, ap, ◌∙◌, eq-eqb}
+use Rattle.std.proofs.Common.{◌+◌, ◌*◌, cond, length, get_or, Err, sym, ap, ◌∙◌, eq-eqb}
 use Rattle.groupings.specs.Universal.{new_universal}
 use Rattle.planning.specs.Arguments.{by_draws, drawn_from}
 use Rattle.planning.specs.declared.arguments.NoAnswer.TheVariants.{Usage}

@@ -1,4 +1,4 @@
-use Rattle.std.proofs.Common.{◌≡◌, ℕ, List, Some, None, vec_items, string_bytes, Result, sym, refl, ap, ◌∙◌, subst}
+use Rattle.std.proofs.Common.{ℕ, List, Some, None, vec_items, string_bytes, Result, sym, ap, ◌∙◌, subst}
 use Rattle.std.specs.declared.alloc.Global.{Global}
 use Rattle.keys.specs.Station.{station_kind}
 use Rattle.keys.specs.Pair.{pair_kind}
