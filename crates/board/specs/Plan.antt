@@ -1,12 +1,9 @@
 -- What a plan and a board mean, and how a plan is made.
-use Rattle.std.specs.Prelude.{ℕ, leb, List, None, Option, Result}
-use Rattle.refusal.specs.declared.Refusal.{Refusal}
-use Rattle.refusal.specs.declared.Refusal.TheVariants.{SpanBelowCodes}
-use Rattle.refusal.specs.Checks.{check}
+use Rattle.std.specs.Prelude.{ℕ, List}
 use Rattle.model.specs.Kind.{Kind}
 use Rattle.model.specs.Grouping.{Groups}
 use Rattle.model.specs.Plan.{plan_of}
-use Rattle.model.specs.Board.{Board, unless}
+use Rattle.model.specs.Board.{Board}
 use Rattle.board.specs.declared.Head.{Head}
 use Rattle.board.specs.declared.Plan.{Plan}
 

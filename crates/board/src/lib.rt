@@ -1,6 +1,7 @@
 //! Plans, the heads and cells of boards, and every call on them. The caller keeps head and cells and lends them to each
 //! call; no call allocates.
 #![tactic(auto)]
+
 ghost use Rattle.std.specs.Prelude.{◌≡◌};
 ghost use Rattle.model.specs.Plan.{cell_count};
 ghost use Rattle.model.specs.Board.{open_outcome, answer_of, left_by};
