@@ -3,10 +3,11 @@
 
 usage: python3 tools/respell.py      at the top of the repository, after the kit's port.py
 
-A name in capitals is a type and joins its words (`Kind-laws` becomes `KindLaws`); any other is in snake case
-(`new-pair` becomes `new_pair`). Names imported from the kit's libraries keep their spelling, and so do names that the
-checker makes for the goals of a function, which stand only in the folders of proofs below that function.
-Functions, strings, inputs and outputs are not touched: no name of theirs has a dash.
+A name that begins with a capital is a type and joins its words (`Kind-laws` becomes `KindLaws`); any other is in snake
+case (`new-pair` becomes `new_pair`). The names are those that stand in specs/ and in the lemma files of proofs/. They are
+turned wherever they are written: in .antt files, in the clauses of .rt files, and between backticks in docs/ and README.md.
+Left alone are names imported from the kit's libraries, names that stand only in the proof of one function, most of which
+the checker makes, and the strings and comments of .rt files.
 """
 
 import pathlib

@@ -73,7 +73,7 @@ module _ {K : Type 0} (P : Plan K) where
     and_true true = refl
     and_true false = refl
 
-    -- the sum_below of the others in a code's group in row r
+    -- the sum over the others in a code's group in row r
     abbrev pub rest : ℕ → ℕ → ℕ
     rest x r = sum_where P.kind.codes (accompanies P r x) (plain net)
 

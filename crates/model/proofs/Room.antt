@@ -69,7 +69,7 @@ with_code_more out (Some c) = go (among out c)
     go false = omega (arith, length_push out c)
 
 module _ {K : Type 0} (P : Plan K) (b : List ℕ) (t : ℕ) where
-  -- a group at most_in_row t yields nothing
+  -- a group whose count is at most t yields nothing
   one_group : (r g : ℕ) (out : List ℕ) → length (with_code out (found P b t r g)) ≤ length out + cond (ltb t (cell P b r g 0)) 1 0
   unfolding found
   one_group r g out = go (ltb t (cell P b r g 0))
@@ -120,7 +120,7 @@ module _ {K : Type 0} (P : Plan K) (b : Board) (k : ℕ) (level : fit_level k �
       omega (arith, row_sum r l, count_by P.groups.width (λ g. ltb t (cell P b.cells r g 0)) (λ g. cell P b.cells r g 0) (t + 1) (λ g _ h. omega (arith, ltb-true t (cell P b.cells r g 0) h))) in
       omega (arith, few_groups b.total k (hot_groups P b.cells t r) level a, count_at_most P.groups.width (λ g. ltb t (cell P b.cells r g 0)))
 
-  -- the list of a board in balance fits where the report_call asks for room
+  -- the list of a board in balance fits where a report asks for room
   pub list_fits : length (hot_list P b.cells (threshold b.total k)) ≤ room P.groups k
   unfolding hot_list
   list_fits =

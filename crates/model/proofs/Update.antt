@@ -34,7 +34,7 @@ module _ {K : Type 0} (P : Plan K) (op : ℕ → ℕ → ℕ) (w c : ℕ) where
   abbrev cell_updated : ℕ → List ℕ → ℕ → ℕ
   cell_updated i xs p = cond (ltb (row_of P p) i && counts_at P p c) (op (get_or xs p 0) w) (get_or xs p 0)
 
-  -- the cells with the weight put in in the first-below i rows
+  -- the cells with the weight put in in the first i rows
   unfoldable pub rows_updated : ℕ → List ℕ → List ℕ
   rows_updated i xs = map (cell_updated i xs) (range_with_len 0 (cell_count P))
 

@@ -3,7 +3,7 @@ ghost use Rattle.model.specs.Universal.{universal_span};
 ghost use Rattle.groupings.specs.UniversalFit.{drawn_fit};
 ghost use Rattle.groupings.specs.Universal.{new_universal, universal_groups};
 ghost use Rattle.model.proofs.Spread.{spread_of_all_rows};
-ghost use Rattle.std.proofs.Common.{rules, arith};
+ghost use Rattle.std.proofs.Common.{rules};
 
 use super::super::Grouping;
 use super::{Draw, Universal};
@@ -49,7 +49,7 @@ impl Grouping for Universal {
 
     ghost spread = { λ u. u.rows };
 
-    ghost lawful = { first_of (Prim.search rules, Prim.grind (arith, Self.row.coded.inj)) };
+    ghost lawful = { Prim.search rules };
 
     ghost apart = { λ u. spread_of_all_rows (universal_groups u) universal_span };
 

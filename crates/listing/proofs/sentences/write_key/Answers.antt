@@ -18,5 +18,5 @@ returns g c =
     let groups = g.G.Grouping.groups c.args.grouping.now in
     let row_said : ℕ → _ = λ n. spaced (map (λ row. groups.group row c.args.code) (range_with_len 0 n)) in
     let all : c.loop-row.row ≡ groups.rows = omega (arith, c.rows-row-end.ensures) in
-    adds_after {E = ℕ} (Ok tt) (string_bytes c.args.out.now) (key_start c.args.code) _ _ _ c.in_ok-write.ensures.bytes
-    (adds_after {E = ℕ} (Ok tt) _ (row_said groups.rows) _ _ _ (c.loop-row.invariant ∙ ap (λ n. string_bytes c.write.new.self ++ row_said n) all) c.in_ok-writeln.ensures.bytes)
+    adds_after {E = ⊥} (Ok tt) (string_bytes c.args.out.now) (key_start c.args.code) _ _ _ c.in_ok-write.ensures.bytes
+    (adds_after {E = ⊥} (Ok tt) _ (row_said groups.rows) _ _ _ (c.loop-row.invariant ∙ ap (λ n. string_bytes c.write.new.self ++ row_said n) all) c.in_ok-writeln.ensures.bytes)
