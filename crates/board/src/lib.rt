@@ -1,11 +1,11 @@
-//! Plans, the heads and cells of boards, and every call on them. The caller keeps head and cells and lends them to each
-//! call; no call allocates.
+//! Plans, the heads and cells of boards, and the call that opens a board. The caller keeps head and cells and lends them to
+//! each call; no call allocates.
 #![tactic(auto)]
 
 ghost use Rattle.std.specs.Prelude.{◌≡◌};
 ghost use Rattle.model.specs.Plan.{cell_count};
 ghost use Rattle.model.specs.Board.{open_outcome, answer_of, left_by};
-ghost use Rattle.board.specs.Plan.{meant, held};
+ghost use Rattle.board.specs.Plan.{new_plan, meant, held};
 
 mod sign;
 
@@ -50,9 +50,11 @@ impl Head {
 }
 
 impl<K: Key, G: Grouping> Plan<K, G> {
+    /// A plan with this number and grouping, if the grouping's span is not below the kind's number of codes.
     pub fn new(number: u32, grouping: G) -> Result<Self, Refusal>
     where
         G: Drop,
+        ensures { result ≡ new_plan K.Key.kind.codes (G.Grouping.span grouping) number grouping }
     {
         if grouping.span() < K::code_count() {
             return Err(Refusal::SpanBelowCodes);
@@ -84,6 +86,7 @@ impl<K: Key, G: Grouping> Plan<K, G> {
     }
 
     /// Makes head and cells a new board of this plan.
+    #[tactic(auto, using(crate::proofs::Opened::zeros_are_opened))]
     pub fn open(&self, head: &mut Head, cells: &mut [u64]) -> Result<(), Refusal>
         ensures answer { result ≡ answer_of (open_outcome (meant K.Key.kind G.Grouping.groups self.now) (held head.old cells.old)) }
         ensures board { held head.new cells.new ≡ left_by (open_outcome (meant K.Key.kind G.Grouping.groups self.now) (held head.old cells.old)) (held head.old cells.old) }
