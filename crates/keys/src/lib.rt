@@ -1,7 +1,7 @@
 //! Kinds of key: stations, and pairs of regions.
 #![tactic(auto)]
 
-ghost use Rattle.std.specs.Prelude.{◌≡◌};
+ghost use Rattle.std.specs.Prelude.{◌≡◌, ℕ};
 ghost use Rattle.model.specs.Kind.{Kind, KindLaws};
 
 mod pair;
@@ -18,15 +18,11 @@ pub trait Key: Drop {
     /// Each code is below this.
     const CODES: u32;
 
+    ghost BITS: { ℕ };
+
+    ghost CODES: { ℕ };
+
     ghost kind: { Kind Self };
-
-    /// How many bits a code has, as code for any kind can ask for it: each kind answers its `BITS`.
-    fn bit_count() -> usize
-        ensures { result ≡ kind.bits };
-
-    /// The number that each code is below, as code for any kind can ask for it: each kind answers its `CODES`.
-    fn code_count() -> u32
-        ensures { result ≡ kind.codes };
 
     fn code(&self) -> u32
         ensures { result ≡ kind.code self.now };
@@ -36,4 +32,8 @@ pub trait Key: Drop {
         ensures { result ≡ kind.key code };
 
     ghost lawful: { KindLaws kind };
+
+    ghost bits_are: { BITS ≡ kind.bits };
+
+    ghost codes_are: { CODES ≡ kind.codes };
 }

@@ -1,35 +1,36 @@
 //! The reasons to refuse: one case for each, its number, the values in its brackets, and how it is written out.
 #![tactic(auto)]
 
-ghost use Rattle.std.specs.Prelude.{◌≡◌, [], ◌∷◌, Some};
+ghost use Rattle.std.specs.Prelude.{◌≡◌, ◌≤◌, length, Some};
 ghost use Rattle.std.specs.Fmt.{WritesOnOk};
-ghost use Rattle.refusal.specs.Reason.{cause_number, side_number, says, reason, listed, spelt};
+ghost use Rattle.refusal.specs.Reason.{says, reason, spelt};
 
-mod values;
-
+use arrayvec::ArrayVec;
 use std::fmt;
-pub use values::Values;
 
-/// Which of the boards that a call brings.
+/// The values in a refusal's brackets, at most four.
+pub type Values = ArrayVec<u64, 4>;
+
+/// Which of the boards that a call brings, by the number that stands for it.
 #[derive(Clone, Copy, PartialEq, Eq, Debug)]
 pub enum Side {
     /// The board written to, or the only one.
-    Written,
+    Written = 0,
     /// The board that is added or taken off.
-    Other,
+    Other = 1,
 }
 
-/// What a report finds out of balance.
+/// What a report finds out of balance, by the number that stands for it.
 #[derive(Clone, Copy, PartialEq, Eq, Debug)]
 pub enum Cause {
     /// The total is 2^63 or more.
-    TotalTooLarge,
+    TotalTooLarge = 1,
     /// A cell is 2^63 or more.
-    CellTooLarge,
+    CellTooLarge = 2,
     /// A cell is above its group's cell 0.
-    CellAboveCount,
+    CellAboveCount = 3,
     /// The counts of a row's groups do not add up to the total.
-    RowSumDiffers,
+    RowSumDiffers = 4,
 }
 
 /// Why a call refuses. A refused call leaves everything as it was.
@@ -92,74 +93,6 @@ pub enum Refusal {
     },
 }
 
-impl Values {
-    fn none() -> Values
-        ensures { listed result ≡ [] }
-    {
-        Values {
-            places: [0, 0, 0, 0],
-            count: 0,
-        }
-    }
-
-    fn one(a: u64) -> Values
-        ensures { listed result ≡ a ∷ [] }
-    {
-        Values {
-            places: [a, 0, 0, 0],
-            count: 1,
-        }
-    }
-
-    fn two(a: u64, b: u64) -> Values
-        ensures { listed result ≡ a ∷ b ∷ [] }
-    {
-        Values {
-            places: [a, b, 0, 0],
-            count: 2,
-        }
-    }
-
-    fn four(a: u64, b: u64, c: u64, d: u64) -> Values
-        ensures { listed result ≡ a ∷ b ∷ c ∷ d ∷ [] }
-    {
-        Values {
-            places: [a, b, c, d],
-            count: 4,
-        }
-    }
-
-    pub fn as_slice(&self) -> &[u64]
-        ensures { result.now ≡ listed self.now }
-    {
-        &self.places[0..self.count]
-    }
-}
-
-impl Side {
-    fn number(&self) -> u64
-        ensures { result ≡ side_number self.now }
-    {
-        match self {
-            Side::Written => 0,
-            Side::Other => 1,
-        }
-    }
-}
-
-impl Cause {
-    fn number(&self) -> u64
-        ensures { result ≡ cause_number self.now }
-    {
-        match self {
-            Cause::TotalTooLarge => 1,
-            Cause::CellTooLarge => 2,
-            Cause::CellAboveCount => 3,
-            Cause::RowSumDiffers => 4,
-        }
-    }
-}
-
 impl Refusal {
     pub fn number(&self) -> u32
         ensures { result ≡ (reason self.now).number }
@@ -186,28 +119,33 @@ impl Refusal {
     }
 
     pub fn values(&self) -> Values
-        ensures { listed result ≡ (reason self.now).values }
+        ensures { result.items ≡ (reason self.now).values }
     {
         match self {
-            Refusal::WrongCellCount { brought, board } => Values::two(
-                *brought as u64,
-                board.number(),
-            ),
-            Refusal::WrongPlanNumber { board } => Values::one(board.number()),
+            Refusal::WrongCellCount { brought, board } => listed(&[*brought as u64, *board as u64]),
+            Refusal::WrongPlanNumber { board } => listed(&[*board as u64]),
             Refusal::OutOfBalance {
                 cause,
                 row,
                 group,
                 cell,
-            } => { Values::four(cause.number(), *row as u64, *group as u64, *cell as u64) }
-            Refusal::BufferTooShort { needed } => Values::one(*needed as u64),
-            Refusal::MessageMisshapen { bit_place } => Values::one(*bit_place),
-            Refusal::PlanFieldDiffers { bit_place } => Values::one(*bit_place),
-            Refusal::SectionUnsound { row, bit_place } => Values::two(*row as u64, *bit_place),
-            Refusal::WrongLineForm { line } => Values::one(*line),
-            _ => Values::none(),
+            } => listed(&[*cause as u64, *row as u64, *group as u64, *cell as u64]),
+            Refusal::BufferTooShort { needed } => listed(&[*needed as u64]),
+            Refusal::MessageMisshapen { bit_place } => listed(&[*bit_place]),
+            Refusal::PlanFieldDiffers { bit_place } => listed(&[*bit_place]),
+            Refusal::SectionUnsound { row, bit_place } => listed(&[*row as u64, *bit_place]),
+            Refusal::WrongLineForm { line } => listed(&[*line]),
+            _ => listed(&[]),
         }
     }
+}
+
+// No refusal has more than four values.
+fn listed(values: &[u64]) -> Values
+    requires few { length values.now ≤ 4 }
+    ensures { result.items ≡ values.now }
+{
+    Values::try_from(values).unwrap()
 }
 
 // A number, and each value after a space.

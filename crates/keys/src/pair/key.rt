@@ -1,4 +1,4 @@
-ghost use Rattle.std.specs.Prelude.{◌≡◌};
+ghost use Rattle.std.specs.Prelude.{◌≡◌, refl};
 ghost use Rattle.keys.specs.Pair.{new_pair, pair_kind};
 ghost use Rattle.keys.specs.PairLaws.{pair_laws};
 
@@ -26,17 +26,17 @@ impl Key for Pair {
 
     const CODES: u32 = 1_000_000;
 
+    ghost BITS = { 20 };
+
+    ghost CODES = { 1000000 };
+
     ghost kind = { pair_kind };
 
     ghost lawful = { pair_laws };
 
-    fn bit_count() -> usize {
-        Self::BITS
-    }
+    ghost bits_are = { refl };
 
-    fn code_count() -> u32 {
-        Self::CODES
-    }
+    ghost codes_are = { refl };
 
     fn code(&self) -> u32 {
         1000 * self.source + self.destination

@@ -1,4 +1,4 @@
-ghost use Rattle.std.specs.Prelude.{◌≡◌};
+ghost use Rattle.std.specs.Prelude.{◌≡◌, refl};
 ghost use Rattle.keys.specs.Station.{new_station, station_kind};
 ghost use Rattle.keys.specs.StationLaws.{station_laws};
 
@@ -23,17 +23,17 @@ impl Key for Station {
 
     const CODES: u32 = 1_000_000_000;
 
+    ghost BITS = { 30 };
+
+    ghost CODES = { 1000000000 };
+
     ghost kind = { station_kind };
 
     ghost lawful = { station_laws };
 
-    fn bit_count() -> usize {
-        Self::BITS
-    }
+    ghost bits_are = { refl };
 
-    fn code_count() -> u32 {
-        Self::CODES
-    }
+    ghost codes_are = { refl };
 
     fn code(&self) -> u32 {
         self.number

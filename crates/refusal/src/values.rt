@@ -1,9 +1,0 @@
-ghost use Rattle.std.specs.Prelude.{◌≤◌};
-
-/// The values in a refusal's brackets, at most four.
-#[derive(Clone, Copy)]
-pub struct Values {
-    pub(crate) places: [u64; 4],
-    pub(crate) count: usize,
-    ghost few: { count ≤ 4 },
-}
