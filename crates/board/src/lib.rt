@@ -56,7 +56,7 @@ impl<K: Key, G: Grouping> Plan<K, G> {
         G: Drop,
         ensures { result ≡ new_plan K.Key.kind.codes (G.Grouping.span grouping) number grouping }
     {
-        if grouping.span() < K::code_count() {
+        if grouping.span() < K::CODES {
             return Err(Refusal::SpanBelowCodes);
         }
         Ok(Plan {
@@ -82,7 +82,7 @@ impl<K: Key, G: Grouping> Plan<K, G> {
     pub fn cell_count(&self) -> usize
         ensures { result ≡ cell_count (meant K.Key.kind G.Grouping.groups self.now) }
     {
-        self.grouping.rows() * self.grouping.width() * (K::bit_count() + 1)
+        self.grouping.rows() * self.grouping.width() * (K::BITS + 1)
     }
 
     /// Makes head and cells a new board of this plan.

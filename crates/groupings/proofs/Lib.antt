@@ -1,1 +1,3 @@
+pub mod DigitCount
+pub mod SharedRows
 pub mod UniversalFit

@@ -1,5 +1,6 @@
 -- Which parameters a universal grouping may have.
-use Rattle.std.specs.Prelude.{ℕ, Bool, true, ◌&&◌, List, [], ◌∷◌, take, None, Option, nat_le, nat_lt}
+use Rattle.std.specs.Prelude.{ℕ, Bool, ◌&&◌, List, take, None, Option, nat_le, nat_lt}
+use Rattle.std.specs.List.{list_all}
 use Rattle.model.specs.Universal.{prime}
 use Rattle.refusal.specs.Checks.{check, accepted}
 use Rattle.refusal.specs.declared.Refusal.{Refusal}
@@ -9,8 +10,7 @@ use Rattle.groupings.specs.declared.universal.Draw.{Draw}
 
 -- every drawn number is below the prime
 abbrev pub drawn_fit : List Draw → Bool
-drawn_fit [] = true
-drawn_fit (draw ∷ drawn) = (nat_lt draw.a prime && nat_lt draw.b prime) && drawn_fit drawn
+drawn_fit drawn = list_all (λ (draw : Draw). nat_lt draw.a prime && nat_lt draw.b prime) drawn
 
 -- the first refusal that applies; only the drawn numbers of used rows are looked at
 abbrev pub universal_refusal : ℕ → ℕ → List Draw → Option Refusal

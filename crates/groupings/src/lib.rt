@@ -1,8 +1,10 @@
 //! Groupings: rows of groups for codes, and the law that bounds how many rows two codes share.
 #![tactic(auto)]
 
-ghost use Rattle.std.specs.Prelude.{◌≡◌, ℕ, ◌<◌, ◌≤◌, ◌≢◌};
-ghost use Rattle.model.specs.Grouping.{Groups, GroupsLaws, Spread, shared_rows, OneGroupNeedsEveryRow};
+ghost use Rattle.std.specs.Prelude.{◌≡◌, ℕ, ◌^◌, ◌<◌, ◌≤◌, ◌&&◌, ◌≢◌, count_by, nat_lt};
+ghost use Rattle.std.specs.List.{range_with_len};
+ghost use Rattle.model.specs.Grouping.{Groups, GroupsLaws, Spread, shares, shared_rows, OneGroupNeedsEveryRow};
+ghost use Rattle.groupings.specs.Rows.{rows_fit};
 
 mod polynomial;
 mod universal;
@@ -42,17 +44,35 @@ pub trait Grouping: Sized {
     ghost apart: { (g : Self) → Spread (groups g) (span g) (spread g) };
 }
 
+// The rows in which two codes share a group, counted in the list of all rows.
+fn count_shared<G: Grouping>(grouping: &G, code: u32, other: u32) -> usize
+    ensures { result ≡ count_by (shares (G.Grouping.groups grouping.now) code other) (range_with_len 0 (G.Grouping.groups grouping.now).rows) }
+{
+    (0..grouping.rows())
+        .filter(|row| grouping.group(*row, code) == grouping.group(*row, other))
+        .count()
+}
+
 /// In how many rows two codes share a group.
+#[tactic(auto, using(crate::proofs::SharedRows::count_of_rows))]
 pub fn shared_rows<G: Grouping>(grouping: &G, code: u32, other: u32) -> usize
     ensures value { result ≡ shared_rows (G.Grouping.groups grouping.now) code other }
     ensures at_most_spread { code < G.Grouping.span grouping.now → other < G.Grouping.span grouping.now → code ≢ other → result ≤ G.Grouping.spread grouping.now }
     ensures one_group_needs_every_row { OneGroupNeedsEveryRow (G.Grouping.groups grouping.now) (G.Grouping.span grouping.now) (G.Grouping.spread grouping.now) }
 {
-    let mut shared = 0;
-    for row in 0..grouping.rows() {
-        if grouping.group(row, code) == grouping.group(row, other) {
-            shared += 1;
-        }
-    }
-    shared
+    count_shared(grouping, code, other)
+}
+
+// How many rows a grouping may have.
+fn rows_fit(rows: usize) -> bool
+    ensures { result ≡ rows_fit rows }
+{
+    (1..=16).contains(&rows)
+}
+
+// Whether a row is used and a code below 2^30: what is outside has group 0.
+fn is_inside(rows: usize, row: usize, code: u32) -> bool
+    ensures { result ≡ (nat_lt row rows && nat_lt code (2 ^ 30)) }
+{
+    row < rows && code < 1 << 30
 }

@@ -1,5 +1,6 @@
 -- What a refusal says: its number, and the values in its brackets.
 use Rattle.std.specs.Prelude.{ℕ, List, [], ◌∷◌, ◌++◌, decimal}
+use Rattle.std.specs.List.{flat_map}
 use Rattle.refusal.specs.declared.Side.{Side}
 use Rattle.refusal.specs.declared.Side.TheVariants.{Written, Other}
 use Rattle.refusal.specs.declared.Cause.{Cause}
@@ -46,8 +47,7 @@ reason (WrongLineForm line) = says 17 (line ∷ [])
 
 -- each number after a space
 abbrev pub spaced : List ℕ → List ℕ
-spaced [] = []
-spaced (v ∷ vs) = (32 ∷ decimal v) ++ spaced vs
+spaced vs = flat_map (λ v. 32 ∷ decimal v) vs
 
 -- the number and the values in decimal, parted by single spaces
 abbrev pub spelt : Reason → List ℕ

@@ -6,6 +6,7 @@ ghost use Rattle.std.specs.Fmt.{WritesOnOk};
 ghost use Rattle.refusal.specs.Reason.{says, reason, spelt};
 
 use arrayvec::ArrayVec;
+use std::error::Error;
 use std::fmt;
 
 /// The values in a refusal's brackets, at most four.
@@ -168,3 +169,5 @@ impl fmt::Display for Refusal {
         write_spelt(f, self.number(), values.as_slice())
     }
 }
+
+impl Error for Refusal {}

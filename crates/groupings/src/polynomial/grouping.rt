@@ -4,46 +4,42 @@ ghost use Rattle.groupings.specs.Polynomial.{new_polynomial, polynomial_groups, 
 ghost use Rattle.model.proofs.PolynomialLaw.{polynomial_laws, polynomial_spread_law};
 ghost use Rattle.groupings.specs.PolynomialFitLemmas.{fit_parts};
 
-use super::super::Grouping;
 use super::Polynomial;
+use crate::{Grouping, is_inside, rows_fit};
 use refusal::Refusal;
 
 // Whether a polynomial grouping may have this width.
+#[tactic(auto, unfolding(model::specs::Polynomial::allowed_width))]
 fn is_width(width: usize) -> bool
     ensures { result ≡ allowed_width width }
 {
-    match width {
-        31 | 61 | 127 | 251 | 509 | 1021 | 2039 | 4093 => true,
-        _ => false,
-    }
+    matches!(width, 31 | 61 | 127 | 251 | 509 | 1021 | 2039 | 4093)
 }
 
-// The least number of at least 1 whose power of the width reaches the span.
+// The least number of at least 1 whose power of the width reaches the span: as many digits as its last code has.
+#[tactic(auto, using(crate::proofs::DigitCount::digits_of_the_last_code))]
 fn digit_count(width: usize, span: u32) -> u32
-    requires { (2 ≤ width) × ((width ≤ 4093) × (span ≤ 2 ^ 30)) }
+    requires wide { 2 ≤ width }
+    requires small { span ≤ 2 ^ 30 }
     ensures { result ≡ digit_count width span }
 {
-    let mut digits = 1;
-    let mut power = width;
-    while power < span as usize {
-        power *= width;
-        digits += 1;
-    }
-    digits
+    let last = (span as usize).saturating_sub(1).max(1);
+    last.ilog(width) + 1
 }
 
 impl Polynomial {
+    #[tactic(auto, using(model::proofs::Inverses::width_at_least_31))]
     pub fn new(rows: usize, width: usize, span: u32) -> Result<Polynomial, Refusal>
         ensures made { result ≡ new_polynomial rows width span }
         ensures digits_are_least { DigitsAreLeast result }
     {
-        if rows == 0 || rows > 16 {
+        if !rows_fit(rows) {
             return Err(Refusal::RowsOutOfRange);
         }
         if !is_width(width) {
             return Err(Refusal::WidthNotAllowed);
         }
-        if span == 0 || span > 1 << 30 {
+        if !(1..=1 << 30).contains(&span) {
             return Err(Refusal::SpanOutOfRange);
         }
         let digits = digit_count(width, span);
@@ -83,12 +79,13 @@ impl Grouping for Polynomial {
         self.span
     }
 
+    #[tactic(auto, using(model::proofs::Digits::digits_at_least_1))]
     fn spread(&self) -> usize {
         (self.digits as usize - 1).min(self.rows)
     }
 
     fn group(&self, row: usize, code: u32) -> usize {
-        if row >= self.rows || code >= 1 << 30 {
+        if !is_inside(self.rows, row, code) {
             return 0;
         }
         let mut sum = 0;

@@ -5,8 +5,8 @@ ghost use Rattle.groupings.specs.Universal.{new_universal, universal_groups};
 ghost use Rattle.model.proofs.Spread.{spread_of_all_rows};
 ghost use Rattle.std.proofs.Common.{rules};
 
-use super::super::Grouping;
 use super::{Draw, Universal};
+use crate::{Grouping, is_inside, rows_fit};
 use refusal::Refusal;
 
 /// 2^31 - 1; a drawn number is below it.
@@ -16,12 +16,7 @@ const PRIME: u32 = 2_147_483_647;
 fn drawn_below_prime(drawn: &[Draw]) -> bool
     ensures { result ≡ drawn_fit drawn.now }
 {
-    for draw in drawn {
-        if draw.a >= PRIME || draw.b >= PRIME {
-            return false;
-        }
-    }
-    true
+    drawn.iter().all(|draw| draw.a < PRIME && draw.b < PRIME)
 }
 
 impl Universal {
@@ -29,10 +24,10 @@ impl Universal {
     pub fn new(rows: usize, width: usize, drawn: [Draw; 16]) -> Result<Universal, Refusal>
         ensures { result ≡ new_universal rows width drawn }
     {
-        if rows == 0 || rows > 16 {
+        if !rows_fit(rows) {
             return Err(Refusal::RowsOutOfRange);
         }
-        if width == 0 || width > 4096 {
+        if !(1..=4096).contains(&width) {
             return Err(Refusal::WidthNotAllowed);
         }
         if !drawn_below_prime(&drawn[0..rows]) {
@@ -70,7 +65,7 @@ impl Grouping for Universal {
     }
 
     fn group(&self, row: usize, code: u32) -> usize {
-        if row >= self.rows || code >= 1 << 30 {
+        if !is_inside(self.rows, row, code) {
             return 0;
         }
         let draw = self.drawn[row];

@@ -1,4 +1,4 @@
-use Rattle.std.proofs.Common.{ℕ, ◌*◌, ◌%◌, ◌<◌, ◌≤◌, mod-lt, mul-le-mul_left, arith}
+use Rattle.std.proofs.Common.{ℕ, ◌*◌, ◌%◌, ◌<◌, ◌≤◌, mod-lt, mul-le-mul_left, arith, rules}
 use Rattle.model.proofs.Inverses.{width_at_least_31, width_at_most_4093}
 use Rattle.model.proofs.PolynomialTurn.{summed_none, summed_more}
 use Rattle.groupings.specs.PolynomialFitLemmas.{fit_parts}
@@ -30,6 +30,7 @@ overflow_add-sum c =
 pub overflow_mul-power : goal.overflow_mul-power
 overflow_mul-power c =
     let range = width_range c.args.self.now in
+    let used : c.args.row < c.args.self.now.rows = search rules in
     let few = (fit_parts c.args.self.now.rows c.args.self.now.width c.args.self.now.span c.args.self.now.fit).few_rows in
     let product : c.loop-place.power * c.args.row ≤ c.loop-place.power * 16 = mul-le-mul_left c.loop-place.power (omega arith) in
     omega arith
