@@ -2,7 +2,7 @@
 //! many rows they share. What it prints is `planning::answer`; this program only moves bytes.
 #![tactic(auto)]
 
-use anyhow::anyhow;
+use anyhow::bail;
 use planning::{NoAnswer, answer};
 use refusal::Refusal;
 use std::env;
@@ -23,20 +23,15 @@ fn run(rt: &HostRuntime) -> anyhow::Result<()> {
     let heap = rt.alloc();
     let words: Vec<String> = env::args(rt)?.skip(1).collect(heap)?;
     // Wrong arguments are told before any input is waited for.
-    if let Err(no_answer) = answer(heap, words.as_slice(), &[]) {
-        return Err(explained(rt, no_answer)?);
-    }
+    explained(rt, answer(heap, words.as_slice(), &[]))?;
     let mut input = Vec::new(heap);
     rt.stdin().read_to_end(&mut input)?;
-    match answer(heap, words.as_slice(), input.as_slice()) {
-        Ok(out) => print!(rt; "{out}")?,
-        Err(no_answer) => return Err(explained(rt, no_answer)?),
-    }
-    Ok(())
+    let out = explained(rt, answer(heap, words.as_slice(), input.as_slice()))?;
+    Ok(print!(rt; "{out}")?)
 }
 
 // What the refusals of a plan mean.
-fn meaning(refusal: &Refusal) -> &'static str {
+fn meaning(refusal: Refusal) -> &'static str {
     match refusal {
         Refusal::RowsOutOfRange => "rows are from 1 to 16",
         Refusal::WidthNotAllowed =>
@@ -48,17 +43,14 @@ fn meaning(refusal: &Refusal) -> &'static str {
     }
 }
 
-// Why there is no answer; the usage is printed where the words have the wrong form.
-fn explained(rt: &HostRuntime, no_answer: NoAnswer) -> anyhow::Result<anyhow::Error> {
-    match no_answer {
-        NoAnswer::Usage => {
+// An answer, or why there is none; the usage is printed where the words have the wrong form.
+fn explained(rt: &HostRuntime, answered: Result<String, NoAnswer>) -> anyhow::Result<String> {
+    match answered {
+        Err(NoAnswer::Usage) => {
             eprintln!(rt; "{USAGE}")?;
-            Ok(anyhow!("the arguments have the wrong form"))
+            bail!("the arguments have the wrong form")
         }
-        NoAnswer::Refused(refusal) => {
-            let reason = meaning(&refusal);
-            Ok(anyhow!("refusal {refusal}: {reason}"))
-        }
-        NoAnswer::NoMemory => Ok(anyhow!("memory ran out")),
+        Err(no_answer @ NoAnswer::Refused(refusal)) => bail!("{no_answer}: {}", meaning(refusal)),
+        answered => Ok(answered?),
     }
 }

@@ -2,7 +2,7 @@
 //! then the keys that the command reads. It prints each command line, and what the tool answers to it.
 #![tactic(auto)]
 
-use planning::{NoAnswer, answer};
+use planning::answer;
 use std::alloc::{AllocError, Global};
 use std::io::Read;
 
@@ -19,18 +19,14 @@ fn run(rt: &HostRuntime) -> anyhow::Result<()> {
         let words = words_of(rt.alloc(), line.trim())?;
         match answer(rt.alloc(), words.as_slice(), keys.as_bytes()) {
             Ok(out) => print!(rt; "{out}")?,
-            Err(NoAnswer::Usage) => println!(rt; "wrong form")?,
-            Err(NoAnswer::Refused(refusal)) => println!(rt; "refusal {refusal}")?,
-            Err(NoAnswer::NoMemory) => println!(rt; "memory ran out")?,
+            Err(no_answer) => println!(rt; "{no_answer}")?,
         }
     }
     Ok(())
 }
 
 fn words_of(heap: Global, line: &str) -> Result<Vec<String>, AllocError> {
-    let mut words = Vec::new(heap);
-    for word in line.split(' ') {
-        words.push(String::from_str(heap, word)?)?;
-    }
-    Ok(words)
+    line.split(' ')
+        .map(|word| String::from_str(heap, word))
+        .try_collect(heap)
 }

@@ -1,5 +1,5 @@
 -- All that the planner's tool says of a text of keys.
-use Rattle.std.specs.Prelude.{◌≡◌, ℕ, ◌+◌, false, cond, List, [], ◌∷◌, ◌++◌, length, Ok, Err, Result}
+use Rattle.std.specs.Prelude.{◌≡◌, ℕ, ◌+◌, false, cond, List, [], ◌∷◌, ◌++◌, length, flat_map, Ok, Err, Result}
 use Rattle.model.specs.Counting.{among}
 use Rattle.model.specs.Kind.{Kind}
 use Rattle.model.specs.Grouping.{Groups}
@@ -10,8 +10,7 @@ use Rattle.listing.specs.Sentences.{key_sentence, shared_sentence, refused_sente
 module _ (g : Groups) (spread : ℕ) where
   -- how a code shares rows with each of others
   abbrev pub shared_with : ℕ → List ℕ → List ℕ
-  shared_with code [] = []
-  shared_with code (other ∷ others) = shared_sentence g spread code other ++ shared_with code others
+  shared_with code others = flat_map (shared_sentence g spread code) others
 
   -- how every two of the codes share rows
   abbrev pub all_shared : List ℕ → List ℕ

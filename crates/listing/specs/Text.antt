@@ -1,11 +1,11 @@
 -- Places of bytes, decimal numbers and lines in a text.
 use Rattle.std.specs.Prelude.{ℕ, ◌+◌, ◌-◌, ◌*◌, ◌^◌, min, cond, ◌&&◌, List, [], ◌∷◌, ◌++◌, length, Some, None, Option, ◌==◌, nat_lt}
+use Rattle.std.specs.List.{position_or_len}
 use Rattle.std.specs.Str.{all_ascii_digits}
 
 -- the place of the first such byte, or the length where there is none
 abbrev pub place : ℕ → List ℕ → ℕ
-place byte [] = 0
-place byte (b ∷ bs) = cond (b == byte) 0 (place byte bs + 1)
+place byte text = position_or_len (λ b. b == byte) text
 
 -- the number that digits write after those of n
 abbrev pub value_after : ℕ → List ℕ → ℕ

@@ -1,5 +1,6 @@
 -- Keys typed on lines.
 use Rattle.std.specs.Prelude.{ℕ, ◌+◌, List, take, drop, Some, None, Err, Option, Result}
+use Rattle.std.specs.Option.{option_zip}
 use Rattle.refusal.specs.declared.Refusal.{Refusal}
 use Rattle.refusal.specs.declared.Refusal.TheVariants.{WrongLineForm}
 use Rattle.keys.specs.declared.station.Station.{Station}
@@ -20,11 +21,14 @@ station_from line None = Err (WrongLineForm line)
 abbrev pub station_line : ℕ → List ℕ → Result Station Refusal
 station_line line text = station_from line (decimal_number text)
 
-abbrev pub pair_from : ℕ → Option ℕ → Option ℕ → Result Pair Refusal
-pair_from line (Some source) (Some destination) = new_pair source destination
-pair_from line (Some source) None = Err (WrongLineForm line)
-pair_from line None destination = Err (WrongLineForm line)
+-- the numbers before and after the first space, if both are there
+abbrev pub two_numbers : List ℕ → Option (ℕ × ℕ)
+two_numbers text = option_zip (decimal_number (take (place 32 text) text)) (decimal_number (drop (place 32 text + 1) text))
+
+abbrev pub pair_from : ℕ → Option (ℕ × ℕ) → Result Pair Refusal
+pair_from line (Some (source, destination)) = new_pair source destination
+pair_from line None = Err (WrongLineForm line)
 
 -- source and destination, parted by the first space
 abbrev pub pair_line : ℕ → List ℕ → Result Pair Refusal
-pair_line line text = pair_from line (decimal_number (take (place 32 text) text)) (decimal_number (drop (place 32 text + 1) text))
+pair_line line text = pair_from line (two_numbers text)

@@ -4,13 +4,11 @@ use Rattle.std.specs.List.{range_with_len}
 use Rattle.std.specs.Str.{bytes_eq}
 use Rattle.refusal.specs.declared.Refusal.{Refusal}
 use Rattle.groupings.specs.declared.universal.Draw.{Draw}
-use Rattle.groupings.specs.declared.universal.Universal.{Universal}
-use Rattle.groupings.specs.declared.polynomial.Polynomial.{Polynomial}
 use Rattle.groupings.specs.Universal.{new_universal}
 use Rattle.groupings.specs.Polynomial.{new_polynomial}
 use Rattle.listing.specs.Text.{decimal_number}
-use Rattle.planning.specs.declared.arguments.NoAnswer.{NoAnswer}
-use Rattle.planning.specs.declared.arguments.NoAnswer.TheVariants.{Usage, Refused, NoMemory}
+use Rattle.planning.specs.declared.no_answer.NoAnswer.{NoAnswer}
+use Rattle.planning.specs.declared.no_answer.NoAnswer.TheVariants.{Usage, Refused, NoMemory}
 use Rattle.planning.specs.declared.arguments.KindNamed.{KindNamed}
 use Rattle.planning.specs.declared.arguments.KindNamed.TheVariants.{Stations, Pairs}
 use Rattle.planning.specs.declared.arguments.RuleNamed.{RuleNamed}
@@ -45,23 +43,20 @@ Reads items (Err NoMemory) words = Unit {0}
 unfoldable pub drawn_from : List ℕ → List Draw
 drawn_from numbers = map (λ row. record { a = slice_index numbers (2 * row + 2); b = slice_index numbers (2 * row + 3) }) (range_with_len 0 16)
 
-abbrev pub by_draws : Result Universal Refusal → Result Chosen NoAnswer
-by_draws (Ok grouping) = Ok (ByDraws grouping)
-by_draws (Err refusal) = Err (Refused refusal)
-
-abbrev pub by_digits : Result Polynomial Refusal → Result Chosen NoAnswer
-by_digits (Ok grouping) = Ok (ByDigits grouping)
-by_digits (Err refusal) = Err (Refused refusal)
+-- a grouping that was made or refused, as one that was asked for
+abbrev pub chosen_by : {G : Type 0} → (G → Chosen) → Result G Refusal → Result Chosen NoAnswer
+chosen_by by (Ok grouping) = Ok (by grouping)
+chosen_by by (Err refusal) = Err (Refused refusal)
 
 -- rows, width, and as many pairs of drawn numbers as rows
-abbrev pub universal_from : List ℕ → Result Chosen NoAnswer
+unfoldable pub universal_from : List ℕ → Result Chosen NoAnswer
 universal_from numbers =
-    cond (length numbers == 2 * slice_index numbers 0 + 2) (by_draws (new_universal (slice_index numbers 0) (slice_index numbers 1) (drawn_from numbers))) (Err Usage)
+    cond (length numbers == 2 * slice_index numbers 0 + 2) (chosen_by ByDraws (new_universal (slice_index numbers 0) (slice_index numbers 1) (drawn_from numbers))) (Err Usage)
 
 -- rows, width and span
-abbrev pub polynomial_from : List ℕ → Result Chosen NoAnswer
+unfoldable pub polynomial_from : List ℕ → Result Chosen NoAnswer
 polynomial_from numbers =
-    cond (length numbers == 3) (by_digits (new_polynomial (slice_index numbers 0) (slice_index numbers 1) (slice_index numbers 2))) (Err Usage)
+    cond (length numbers == 3) (chosen_by ByDigits (new_polynomial (slice_index numbers 0) (slice_index numbers 1) (slice_index numbers 2))) (Err Usage)
 
 abbrev pub chosen_from : Option RuleNamed → Option (List ℕ) → Result Chosen NoAnswer
 chosen_from None numbers = Err Usage

@@ -15,8 +15,8 @@ use Rattle.listing.specs.Text.{lines}
 use Rattle.listing.specs.Typed.{station_line, pair_line}
 use Rattle.listing.specs.Description.{codes_read, description}
 use Rattle.planning.specs.Arguments.{kind_named, rule_named, numbers_from, chosen_from}
-use Rattle.planning.specs.declared.arguments.NoAnswer.{NoAnswer}
-use Rattle.planning.specs.declared.arguments.NoAnswer.TheVariants.{Usage, Refused, NoMemory}
+use Rattle.planning.specs.declared.no_answer.NoAnswer.{NoAnswer}
+use Rattle.planning.specs.declared.no_answer.NoAnswer.TheVariants.{Usage, Refused, NoMemory}
 use Rattle.planning.specs.declared.arguments.KindNamed.{KindNamed}
 use Rattle.planning.specs.declared.arguments.KindNamed.TheVariants.{Stations, Pairs}
 use Rattle.planning.specs.declared.arguments.Chosen.{Chosen}
@@ -50,7 +50,7 @@ module _ {K : Type 0} (kind : Kind K) (typed : ℕ → List ℕ → Result K Ref
   answer_for chosen input = answer_by (chosen_groups chosen) (chosen_span chosen) (chosen_spread chosen) input
 
   -- where there is an answer, every two different codes of the text share at most as many rows as the spread told beside them
-  abbrev pub RowsSharedWithinSpread : Chosen → List ℕ → Type 0
+  unfoldable pub RowsSharedWithinSpread : Chosen → List ℕ → Type 0
   RowsSharedWithinSpread chosen input =
       (told : List ℕ) → answer_for chosen input ≡ Ok told → (code other : ℕ)
       → among (codes_read kind typed 1 (lines input)) code ≡ true → among (codes_read kind typed 1 (lines input)) other ≡ true

@@ -1,11 +1,12 @@
-ghost use Rattle.std.specs.Prelude.{◌≡◌, map, Some, string_bytes};
+ghost use Rattle.std.specs.Prelude.{◌≡◌, map, Some, Ok, string_bytes};
 ghost use Rattle.keys.specs.Station.{station_kind};
 ghost use Rattle.keys.specs.Pair.{pair_kind};
 ghost use Rattle.listing.specs.Typed.{station_line, pair_line};
 ghost use Rattle.planning.specs.declared.arguments.Chosen.{Chosen};
 ghost use Rattle.planning.specs.Command.{Tells, answer_by, answer_for, answer_of, answer_to, RowsSharedWithinSpread};
 
-use crate::arguments::{Chosen, KindNamed, NoAnswer, grouping_of, kind_of, numbers_of, rule_of};
+use crate::arguments::{Chosen, KindNamed, RuleNamed, grouping_of, numbers_of};
+use crate::no_answer::NoAnswer;
 use groupings::{Grouping, Polynomial, Universal};
 use keys::{Key, Pair, Station};
 use listing::{Typed, describe};
@@ -20,19 +21,16 @@ fn answer_by<K: Typed, G: Grouping>(
 ) -> Result<String, NoAnswer>
     ensures { Tells string_bytes result (answer_by K.Key.kind K.Typed.typed (G.Grouping.groups grouping.now) (G.Grouping.span grouping.now) (G.Grouping.spread grouping.now) input.now) }
 {
-    if grouping.span() < K::code_count() {
-        return Err(NoAnswer::Refused(Refusal::SpanBelowCodes));
+    if grouping.span() < K::CODES {
+        return Err(Refusal::SpanBelowCodes.into());
     }
-    match describe::<K, G>(heap, grouping, input) {
-        Ok(out) => Ok(out),
-        Err(_) => Err(NoAnswer::NoMemory),
-    }
+    Ok(describe::<K, G>(heap, grouping, input)?)
 }
 
-fn answer_for<K: Typed>(heap: Global, grouping: &Chosen, input: &[u8]) -> Result<String, NoAnswer>
-    ensures { Tells string_bytes result (answer_for K.Key.kind K.Typed.typed grouping.now input.now) }
+fn answer_for<K: Typed>(heap: Global, chosen: &Chosen, input: &[u8]) -> Result<String, NoAnswer>
+    ensures { Tells string_bytes result (answer_for K.Key.kind K.Typed.typed chosen.now input.now) }
 {
-    match grouping {
+    match chosen {
         Chosen::ByDraws(universal) => answer_by::<K, Universal>(heap, universal, input),
         Chosen::ByDigits(polynomial) => answer_by::<K, Polynomial>(heap, polynomial, input),
     }
@@ -41,36 +39,30 @@ fn answer_for<K: Typed>(heap: Global, grouping: &Chosen, input: &[u8]) -> Result
 fn answer_of(
     heap: Global,
     kind: KindNamed,
-    grouping: Result<Chosen, NoAnswer>,
+    chosen: &Chosen,
     input: &[u8],
 ) -> Result<String, NoAnswer>
-    ensures { Tells string_bytes result (answer_of (Some kind) grouping input.now) }
+    ensures { Tells string_bytes result (answer_of (Some kind) (Ok chosen.now) input.now) }
 {
-    let chosen = match grouping {
-        Ok(chosen) => chosen,
-        Err(no_answer) => return Err(no_answer),
-    };
     match kind {
-        KindNamed::Stations => answer_for::<Station>(heap, &chosen, input),
-        KindNamed::Pairs => answer_for::<Pair>(heap, &chosen, input),
+        KindNamed::Stations => answer_for::<Station>(heap, chosen, input),
+        KindNamed::Pairs => answer_for::<Pair>(heap, chosen, input),
     }
 }
 
 /// What the tool says of a text of keys under the plan that the words ask for, or why it says nothing.
+#[tactic(auto, using(crate::proofs::SharedRows::stations_share_within_spread, crate::proofs::SharedRows::pairs_share_within_spread))]
 pub fn answer(heap: Global, words: &[String], input: &[u8]) -> Result<String, NoAnswer>
     ensures stations_share_within_spread { (chosen : Chosen) → RowsSharedWithinSpread station_kind station_line chosen input.now }
     ensures pairs_share_within_spread { (chosen : Chosen) → RowsSharedWithinSpread pair_kind pair_line chosen input.now }
     ensures told { Tells string_bytes result (answer_to (map string_bytes words.now) input.now) }
 {
-    if words.len() < 2 {
-        return Err(NoAnswer::Usage);
-    }
-    let Some(kind) = kind_of(words[0].as_str()) else {
+    let [kind, rule, numbers @ ..] = words else {
         return Err(NoAnswer::Usage);
     };
-    let rule = rule_of(words[1].as_str());
-    match numbers_of(heap, &words[2..]) {
-        Ok(numbers) => answer_of(heap, kind, grouping_of(rule, numbers.as_slice()), input),
-        Err(no_answer) => Err(no_answer),
-    }
+    let kind = kind.parse::<KindNamed>()?;
+    let rule = rule.parse::<RuleNamed>()?;
+    let numbers = numbers_of(heap, numbers)?;
+    let chosen = grouping_of(rule, numbers.as_slice())?;
+    answer_of(heap, kind, &chosen, input)
 }

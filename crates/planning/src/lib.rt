@@ -3,6 +3,7 @@
 
 mod arguments;
 mod command;
+mod no_answer;
 
-pub use arguments::NoAnswer;
 pub use command::answer;
+pub use no_answer::NoAnswer;
