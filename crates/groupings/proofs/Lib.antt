@@ -1,3 +1,4 @@
 pub mod DigitCount
+pub mod DrawnFit
 pub mod SharedRows
 pub mod UniversalFit

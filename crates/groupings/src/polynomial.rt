@@ -5,7 +5,7 @@ ghost use Rattle.model.specs.Polynomial.{digit_count};
 pub mod grouping;
 
 /// The polynomial grouping. The digits of a code that its span asks for are counted once, when it is made.
-#[derive(Clone, Copy, PartialEq, Eq, Debug)]
+#[derive(Clone, Copy, Debug, PartialEq, Eq)]
 pub struct Polynomial {
     rows: usize,
     width: usize,

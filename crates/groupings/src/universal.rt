@@ -4,14 +4,14 @@ ghost use Rattle.groupings.specs.UniversalFit.{universal_fit};
 pub mod grouping;
 
 /// The two drawn numbers of a row.
-#[derive(Clone, Copy, PartialEq, Eq, Debug)]
+#[derive(Clone, Copy, Debug, PartialEq, Eq)]
 pub struct Draw {
     pub a: u32,
     pub b: u32,
 }
 
 /// The universal grouping: two drawn numbers for each of 16 rows, of which the first `rows` are used.
-#[derive(Clone, Copy, PartialEq, Eq, Debug)]
+#[derive(Clone, Copy, Debug, PartialEq, Eq)]
 pub struct Universal {
     rows: usize,
     width: usize,

@@ -103,12 +103,9 @@ mod tests {
 
     #[test]
     fn eight_widths_are_polynomial(rt: HostRuntime) {
-        let mut sum = 0;
-        for width in 0..5000usize {
-            if Polynomial::new(16, width, 1 << 30).is_ok() {
-                sum = width.saturating_add(sum);
-            }
-        }
+        let sum = (0..5000usize)
+            .filter(|width| Polynomial::new(16, *width, 1 << 30).is_ok())
+            .fold(0, usize::saturating_add);
         assert_eq!(rt; sum, 31 + 61 + 127 + 251 + 509 + 1021 + 2039 + 4093);
         assert_eq!(rt;
             Polynomial::new(0, 61, 0).err(),

@@ -1,3 +1,4 @@
 pub mod TextSteps
 pub mod Adding
 pub mod Distinct
+pub mod FromPlaces

@@ -6,10 +6,6 @@ use Rattle.std.proofs.lemmas.List.{take_all, take_rest, drop_all, length-append}
 use Rattle.std.specs.List.{position}
 use Rattle.listing.specs.Text.{place, value_after, lines_from, lines}
 
--- a part that goes on to the end
-pub part_to_end : {X : Type 0} (n : ℕ) (xs : List X) → take (length xs - n) (drop n xs) ≡ drop n xs
-part_to_end n xs = take_rest xs n
-
 -- what the place of a byte is where it was found, and where it was not
 pub place_found : (byte : ℕ) (xs : List ℕ) (at : ℕ) → position (λ b. b == byte) xs ≡ Some at → (at ≡ place byte xs) × (at < length xs)
 place_found byte xs at e = (grind (arith, common_steps), grind (arith, common_steps))

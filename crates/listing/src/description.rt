@@ -14,9 +14,9 @@ fn distinct_of(heap: Global, codes: &[u32]) -> Result<Vec<u32>, AllocError>
     ensures { IfOk result (λ once. once.items ≡ distinct codes.now) }
 {
     let mut once = Vec::new(heap);
-    for code in codes {
-        if !once.contains(code) {
-            once.push(*code)?;
+    for &code in codes {
+        if !once.contains(&code) {
+            once.push(code)?;
         }
     }
     Ok(once)

@@ -63,11 +63,11 @@ impl<'a, G: Grouping> fmt::Display for SharedWith<'a, G> {
     ghost output = { λ s. Some (shared_with (G.Grouping.groups s.grouping.now) (G.Grouping.spread s.grouping.now) s.code s.others.now) };
 
     fn fmt<W: fmt::Write>(&self, f: &mut fmt::Formatter<W>) -> fmt::Result {
-        for other in self.others {
+        for &other in self.others {
             let shared = SharedSentence {
                 grouping: self.grouping,
                 code: self.code,
-                other: *other,
+                other,
             };
             write!(f, "{shared}")?;
         }

@@ -24,7 +24,7 @@ pub(crate) enum RuleNamed {
 }
 
 // The grouping that was asked for.
-#[derive(Clone, Copy)]
+#[derive(Clone, Copy, Debug, PartialEq, Eq)]
 pub(crate) enum Chosen {
     ByDraws(Universal),
     ByDigits(Polynomial),

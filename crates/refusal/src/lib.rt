@@ -13,7 +13,7 @@ use std::fmt;
 pub type Values = ArrayVec<u64, 4>;
 
 /// Which of the boards that a call brings, by the number that stands for it.
-#[derive(Clone, Copy, PartialEq, Eq, Debug)]
+#[derive(Clone, Copy, Debug, PartialEq, Eq)]
 pub enum Side {
     /// The board written to, or the only one.
     Written = 0,
@@ -22,7 +22,7 @@ pub enum Side {
 }
 
 /// What a report finds out of balance, by the number that stands for it.
-#[derive(Clone, Copy, PartialEq, Eq, Debug)]
+#[derive(Clone, Copy, Debug, PartialEq, Eq)]
 pub enum Cause {
     /// The total is 2^63 or more.
     TotalTooLarge = 1,
@@ -35,7 +35,7 @@ pub enum Cause {
 }
 
 /// Why a call refuses. A refused call leaves everything as it was.
-#[derive(Clone, Copy, PartialEq, Eq, Debug)]
+#[derive(Clone, Copy, Debug, PartialEq, Eq)]
 pub enum Refusal {
     /// Rows are outside 1 to 16.
     RowsOutOfRange,
