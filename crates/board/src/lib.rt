@@ -49,6 +49,8 @@ impl Head {
     }
 }
 
+// Clauses say what a plan means by `meant`: a model of it would have to be data, and what a kind and a grouping mean holds
+// functions.
 impl<K: Key, G: Grouping> Plan<K, G> {
     /// A plan with this number and grouping, if the grouping's span is not below the kind's number of codes.
     pub fn new(number: u32, grouping: G) -> Result<Self, Refusal>

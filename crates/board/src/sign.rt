@@ -1,7 +1,7 @@
 ghost use Rattle.std.specs.Prelude.{◌≡◌};
 ghost use Rattle.board.specs.Sign.{put_in};
 
-// Whether a number is added or taken off.
+// Whether a number is added or taken off. An enum and no closure, so that clauses can say `put_in` of it.
 #[derive(Clone, Copy, Debug, PartialEq, Eq)]
 pub enum Sign {
     Plus,

@@ -10,7 +10,8 @@ pub struct Draw {
     pub b: u32,
 }
 
-/// The universal grouping: two drawn numbers for each of 16 rows, of which the first `rows` are used.
+/// The universal grouping: two drawn numbers for each of 16 rows, of which the first `rows` are used. They stand in an array,
+/// since no call on a grouping allocates.
 #[derive(Clone, Copy, Debug, PartialEq, Eq)]
 pub struct Universal {
     rows: usize,

@@ -23,14 +23,14 @@ fn run(rt: &HostRuntime) -> anyhow::Result<()> {
     let heap = rt.alloc();
     let words: Vec<String> = env::args(rt)?.skip(1).collect(heap)?;
     // Wrong arguments are told before any input is waited for.
-    explained(rt, answer(heap, words.as_slice(), &[]))?;
+    explained(rt, answer(heap, &words, &[]))?;
     let mut input = Vec::new(heap);
     rt.stdin().read_to_end(&mut input)?;
-    let out = explained(rt, answer(heap, words.as_slice(), input.as_slice()))?;
+    let out = explained(rt, answer(heap, &words, &input))?;
     Ok(print!(rt; "{out}")?)
 }
 
-// What the refusals of a plan mean.
+// What the refusals of a plan mean to a planner; a refusal itself writes numbers.
 fn meaning(refusal: Refusal) -> &'static str {
     match refusal {
         Refusal::RowsOutOfRange => "rows are from 1 to 16",

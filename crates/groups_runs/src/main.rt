@@ -17,7 +17,7 @@ fn run(rt: &HostRuntime) -> anyhow::Result<()> {
         let (line, keys) = part.split_once('\n').unwrap_or((part, ""));
         println!(rt; "${line}")?;
         let words = words_of(rt.alloc(), line.trim())?;
-        match answer(rt.alloc(), words.as_slice(), keys.as_bytes()) {
+        match answer(rt.alloc(), &words, keys.as_bytes()) {
             Ok(out) => print!(rt; "{out}")?,
             Err(no_answer) => println!(rt; "{no_answer}")?,
         }

@@ -17,11 +17,17 @@ joined_more ns n None = refl
 joined_more ns n (Some ms) = ap Some (append_assoc ns (n ∷ []) ms)
 
 -- one word more
+pub words_here : {X : Type 0} (bytes : X → List ℕ) (words : List X) (i : ℕ) (word : X) → i < length words → word ≡ get_or words i word
+    → numbers_from (map bytes (drop i words)) ≡ before (decimal_number (bytes word)) (numbers_from (map bytes (drop (i + 1) words)))
+words_here bytes words i word h e =
+    ap (λ ws. numbers_from (map bytes ws)) (drop_more words i word h)
+    ∙ ap (λ w. before (decimal_number (bytes w)) (numbers_from (map bytes (drop (i + 1) words)))) (sym e)
+
+-- with what was read before it
 pub one_word_more : {X : Type 0} (bytes : X → List ℕ) (words : List X) (i : ℕ) (word : X) (ns : List ℕ) (n : Option ℕ) → i < length words → word ≡ get_or words i word → n ≡ decimal_number (bytes word)
     → joined ns (numbers_from (map bytes (drop i words))) ≡ joined ns (before n (numbers_from (map bytes (drop (i + 1) words))))
 one_word_more bytes words i word ns n h is written =
-    ap (λ ws. joined ns (numbers_from (map bytes ws))) (drop_more words i word h)
-    ∙ ap (λ o. joined ns (before o (numbers_from (map bytes (drop (i + 1) words))))) (ap (λ w. decimal_number (bytes w)) (sym is) ∙ sym written)
+    ap (joined ns) (words_here bytes words i word h is ∙ ap (λ o. before o (numbers_from (map bytes (drop (i + 1) words)))) (sym written))
 
 -- an array whose elements a closure makes, if each call leaves the closure as it was
 made_from_here : {F B : Type 0} (g : Mut F (ℕ × Unit {0}) B) (f : F) (h : ℕ → B) (ys : List B) (top i n : ℕ) → i + n ≡ top → length ys ≡ top

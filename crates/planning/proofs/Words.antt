@@ -1,20 +1,13 @@
 -- What the words of a command line say, one by one.
 use Rattle.std.proofs.Common.{◌≡◌, ℕ, ◌+◌, ◌-◌, ◌<◌, ◌≤◌, Bool, true, cond, List, [], ◌∷◌, ◌++◌, map, length, get_or, take, drop, Some, None, Err, Option, sym, ap, ◌∙◌, ap₂, arith}
-use Rattle.std.proofs.lemmas.List.{get_or-map, drop-map, drop_more, take_rest}
+use Rattle.std.proofs.lemmas.List.{get_or-map, drop-map, take_rest}
 use Rattle.listing.specs.Text.{decimal_number}
 use Rattle.planning.specs.Arguments.{before, kind_named, rule_named, numbers_from, chosen_from}
 use Rattle.planning.specs.Command.{answer_of, answer_to}
 use Rattle.planning.specs.declared.no_answer.NoAnswer.TheVariants.{Usage}
 use Rattle.planning.specs.declared.arguments.KindNamed.{KindNamed}
 use Rattle.planning.specs.declared.arguments.RuleNamed.{RuleNamed}
-use Rattle.planning.proofs.Numbers.{joined, joined_more}
-
--- one word more
-pub words_here : {X : Type 0} (bytes : X → List ℕ) (words : List X) (i : ℕ) (word : X) → i < length words → word ≡ get_or words i word
-    → numbers_from (map bytes (drop i words)) ≡ before (decimal_number (bytes word)) (numbers_from (map bytes (drop (i + 1) words)))
-words_here bytes words i word h e =
-    ap (λ ws. numbers_from (map bytes ws)) (drop_more words i word h)
-    ∙ ap (λ w. before (decimal_number (bytes w)) (numbers_from (map bytes (drop (i + 1) words)))) (sym e)
+use Rattle.planning.proofs.Numbers.{joined, joined_more, words_here}
 
 pub number_here : {X : Type 0} (bytes : X → List ℕ) (words : List X) (i : ℕ) (word : X) (ns ns' : List ℕ) (n : ℕ) (r : Bool) → i < length words → word ≡ get_or words i word
     → Some n ≡ decimal_number (bytes word) → r ≡ true → ns' ≡ cond r (ns ++ (n ∷ [])) ns

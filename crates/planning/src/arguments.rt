@@ -58,7 +58,8 @@ impl FromStr for RuleNamed {
     }
 }
 
-// The numbers that words write, if each writes one.
+// The numbers that words write, if each writes one. A loop, since it has to be known that a word that writes none is the error,
+// which `try_collect` does not say.
 #[tactic(auto, using(crate::proofs::Numbers::one_word_more, crate::proofs::Numbers::joined_more))]
 pub(crate) fn numbers_of(heap: Global, words: &[String]) -> Result<Vec<u32>, NoAnswer>
     ensures { Reads vec_items result (map string_bytes words.now) }

@@ -27,6 +27,7 @@ fn answer_by<K: Typed, G: Grouping>(
     Ok(describe::<K, G>(heap, grouping, input)?)
 }
 
+// The rule is known only when the words are read, so a match picks the instance.
 fn answer_for<K: Typed>(heap: Global, chosen: &Chosen, input: &[u8]) -> Result<String, NoAnswer>
     ensures { Tells string_bytes result (answer_for K.Key.kind K.Typed.typed chosen.now input.now) }
 {
@@ -36,6 +37,7 @@ fn answer_for<K: Typed>(heap: Global, chosen: &Chosen, input: &[u8]) -> Result<S
     }
 }
 
+// So is the kind.
 fn answer_of(
     heap: Global,
     kind: KindNamed,
@@ -63,6 +65,6 @@ pub fn answer(heap: Global, words: &[String], input: &[u8]) -> Result<String, No
     let kind = kind.parse::<KindNamed>()?;
     let rule = rule.parse::<RuleNamed>()?;
     let numbers = numbers_of(heap, numbers)?;
-    let chosen = grouping_of(rule, numbers.as_slice())?;
+    let chosen = grouping_of(rule, &numbers)?;
     answer_of(heap, kind, &chosen, input)
 }

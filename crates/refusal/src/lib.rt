@@ -95,6 +95,7 @@ pub enum Refusal {
 }
 
 impl Refusal {
+    // Cases carry values, so that no cast gives the number.
     pub fn number(&self) -> u32
         ensures { result ≡ (reason self.now).number }
     {

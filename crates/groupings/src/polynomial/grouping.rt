@@ -88,6 +88,7 @@ impl Grouping for Polynomial {
         if !is_inside(self.rows, row, code) {
             return 0;
         }
+        // Digit by digit, the lowest first; no list of them is made.
         let mut sum = 0;
         let mut power = 1;
         let mut rest = code as usize;
