@@ -1,4 +1,5 @@
--- Drawn numbers from a place on: the draw there, and the rest.
+-- Drawn numbers from a place on: the draw there, and the rest. The code needs none of this; it says how the definition goes down
+-- a list.
 use Rattle.std.proofs.Common.{◌≡◌, ℕ, ◌+◌, ◌<◌, ◌≤◌, Bool, true, false, ◌&&◌, ltb, List, length, get_or, drop, sym, refl, ◌∙◌, add-one, drop-cons, le-ltb, lt-ltb}
 use Rattle.model.specs.Universal.{prime}
 use Rattle.groupings.specs.UniversalFit.{drawn_fit}

@@ -44,7 +44,8 @@ pub trait Grouping: Sized {
     ghost apart: { (g : Self) → Spread (groups g) (span g) (spread g) };
 }
 
-// The rows in which two codes share a group, counted in the list of all rows.
+// The rows in which two codes share a group, counted in the list of all rows. Apart from `shared_rows`, since a chain is shown
+// by a clause that mirrors it.
 fn count_shared<G: Grouping>(grouping: &G, code: u32, other: u32) -> usize
     ensures { result ≡ count_by (shares (G.Grouping.groups grouping.now) code other) (range_with_len 0 (G.Grouping.groups grouping.now).rows) }
 {

@@ -4,8 +4,9 @@ ghost use Rattle.model.specs.Polynomial.{digit_count};
 
 pub mod grouping;
 
-/// The polynomial grouping. The digits of a code that its span asks for are counted once, when it is made.
-#[derive(Clone, Copy, Debug, PartialEq, Eq)]
+/// The polynomial grouping. The digits of a code that its span asks for are counted once, when it is made. Rows and width are two
+/// numbers and no struct of their own, as each grouping allows other widths.
+#[derive(Clone, Copy)]
 pub struct Polynomial {
     rows: usize,
     width: usize,

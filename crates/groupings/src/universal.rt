@@ -4,15 +4,15 @@ ghost use Rattle.groupings.specs.UniversalFit.{universal_fit};
 pub mod grouping;
 
 /// The two drawn numbers of a row.
-#[derive(Clone, Copy, Debug, PartialEq, Eq)]
+#[derive(Clone, Copy)]
 pub struct Draw {
     pub a: u32,
     pub b: u32,
 }
 
 /// The universal grouping: two drawn numbers for each of 16 rows, of which the first `rows` are used. They stand in an array,
-/// since no call on a grouping allocates.
-#[derive(Clone, Copy, Debug, PartialEq, Eq)]
+/// so that it is `Copy` and the numbers of rows that are not used are kept.
+#[derive(Clone, Copy)]
 pub struct Universal {
     rows: usize,
     width: usize,

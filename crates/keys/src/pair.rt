@@ -3,7 +3,7 @@ ghost use Rattle.std.specs.Prelude.{◌≡◌, ◌<◌};
 pub mod key;
 
 /// A source and a destination region, each from 0 to 999 for as long as the pair exists.
-#[derive(Clone, Copy, Debug, PartialEq, Eq)]
+#[derive(Clone, Copy)]
 pub struct Pair {
     source: u32,
     destination: u32,

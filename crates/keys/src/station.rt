@@ -3,7 +3,7 @@ ghost use Rattle.std.specs.Prelude.{◌≡◌, ◌<◌};
 pub mod key;
 
 /// A station, by its number from 0 to 999,999,999.
-#[derive(Clone, Copy, Debug, PartialEq, Eq)]
+#[derive(Clone, Copy)]
 pub struct Station {
     number: u32,
     ghost below: { number < 1000000000 },

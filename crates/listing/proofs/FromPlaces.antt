@@ -1,4 +1,4 @@
--- What each definition says of a list from a place on: the element there, and the rest.
+-- What each definition says of a list from a place on: the element there, and the rest. The code needs none of this.
 use Rattle.std.proofs.Common.{◌≡◌, ℕ, ◌+◌, ◌-◌, ◌*◌, ◌<◌, true, false, List, ◌++◌, length, get_or, drop, sym, refl, ap, ◌∙◌, arith, eq-eqb, ne_eqb}
 use Rattle.std.proofs.lemmas.List.{drop_more}
 use Rattle.std.specs.Char.{is_ascii_digit}

@@ -3,7 +3,7 @@ ghost use Rattle.listing.specs.Text.{lines};
 ghost use Rattle.listing.specs.Sentences.{Adds};
 ghost use Rattle.listing.specs.Description.{code_read, codes_read, line_said, lines_said, distinct, EachOnce, description};
 
-use crate::sentences::{AllShared, ClosingSentence, KeySentence, RefusedSentence};
+use crate::sentences::{AllShared, ClosingSentence, KeySentence, fault};
 use crate::text::Lines;
 use crate::typed::Typed;
 use groupings::Grouping;
@@ -22,7 +22,8 @@ fn distinct_of(heap: Global, codes: &[u32]) -> Result<Vec<u32>, AllocError>
     Ok(once)
 }
 
-// One line: what is said of it, and its key's code after those read so far.
+// One line: what is said of it, and its key's code after those read so far. Text and codes are two results, which only this and
+// the next function fill.
 fn write_line<K: Typed, G: Grouping>(
     out: &mut String,
     codes: &mut Vec<u32>,
@@ -39,11 +40,11 @@ fn write_line<K: Typed, G: Grouping>(
             codes.push(code)?;
             write!(out, "{}", KeySentence { grouping, code })
         }
-        Err(refusal) => write!(out, "{}", RefusedSentence { line, refusal }),
+        Err(refusal) => writeln!(out, "line {line} refused: {refusal} ({})", fault(&refusal)),
     }
 }
 
-// Every line in turn. It answers how many there were.
+// Every line in turn. How many there were is the answer, so they are counted here, which also numbers them.
 fn write_lines<K: Typed, G: Grouping>(
     out: &mut String,
     codes: &mut Vec<u32>,
@@ -76,14 +77,11 @@ pub fn describe<K: Typed, G: Grouping>(
     let mut codes = Vec::new(heap);
     let count = write_lines::<K, G>(&mut out, &mut codes, grouping, input)?;
     let once = distinct_of(heap, &codes)?;
-    write!(
-        out,
-        "{}",
-        AllShared {
-            grouping,
-            codes: &once
-        }
-    )?;
+    let shared = AllShared {
+        grouping,
+        codes: &once,
+    };
+    write!(out, "{shared}")?;
     let keys = codes.len();
     let refused = count - keys as u64;
     write!(out, "{}", ClosingSentence { keys, refused })?;

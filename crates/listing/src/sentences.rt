@@ -1,5 +1,5 @@
 ghost use Rattle.std.specs.Prelude.{◌≡◌, Some};
-ghost use Rattle.listing.specs.Sentences.{key_sentence, shared_sentence, line_fault, refused_sentence, closing_sentence};
+ghost use Rattle.listing.specs.Sentences.{key_sentence, shared_sentence, line_fault, closing_sentence};
 ghost use Rattle.listing.specs.Description.{shared_with, all_shared};
 
 use groupings::{Grouping, shared_rows};
@@ -100,29 +100,13 @@ impl<'a, G: Grouping> fmt::Display for AllShared<'a, G> {
     }
 }
 
-// What a refused line lacks.
-fn fault(refusal: &Refusal) -> &'static str
+// What a refused line lacks, in words; the refusal itself writes numbers.
+pub(crate) fn fault(refusal: &Refusal) -> &'static str
     ensures { result.now ≡ line_fault refusal.now }
 {
     match refusal {
         Refusal::KeyOutOfRange => "no such key",
         _ => "not the form of a key",
-    }
-}
-
-/// A line that is refused, and why.
-#[derive(Drop)]
-pub(crate) struct RefusedSentence {
-    pub(crate) line: u64,
-    pub(crate) refusal: Refusal,
-}
-
-impl fmt::Display for RefusedSentence {
-    ghost output = { λ s. Some (refused_sentence s.line s.refusal) };
-
-    fn fmt<W: fmt::Write>(&self, f: &mut fmt::Formatter<W>) -> fmt::Result {
-        let RefusedSentence { line, refusal } = self;
-        writeln!(f, "line {line} refused: {refusal} ({})", fault(refusal))
     }
 }
 

@@ -10,7 +10,8 @@ pub(crate) fn place_of(byte: u8, text: &[u8]) -> Option<usize>
     text.iter().position(|b| *b == byte)
 }
 
-// The lines of a text, each without its line feed.
+// The lines of a text, each without its line feed. The slice's `split` would add an empty line after the last feed, and its
+// `split_inclusive` keeps the feeds.
 #[derive(Drop)]
 pub(crate) struct Lines<'a>(pub(crate) &'a [u8]);
 

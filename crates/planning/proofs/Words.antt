@@ -1,4 +1,4 @@
--- What the words of a command line say, one by one.
+-- What the words of a command line say, one by one. The code needs none of this.
 use Rattle.std.proofs.Common.{◌≡◌, ℕ, ◌+◌, ◌-◌, ◌<◌, ◌≤◌, Bool, true, cond, List, [], ◌∷◌, ◌++◌, map, length, get_or, take, drop, Some, None, Err, Option, sym, ap, ◌∙◌, ap₂, arith}
 use Rattle.std.proofs.lemmas.List.{get_or-map, drop-map, take_rest}
 use Rattle.listing.specs.Text.{decimal_number}

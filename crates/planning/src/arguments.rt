@@ -23,8 +23,8 @@ pub(crate) enum RuleNamed {
     Digits,
 }
 
-// The grouping that was asked for.
-#[derive(Clone, Copy, Debug, PartialEq, Eq)]
+// The grouping that was asked for. It has no equality, since a grouping has none: numbers of rows that are not used mean nothing.
+#[derive(Clone, Copy)]
 pub(crate) enum Chosen {
     ByDraws(Universal),
     ByDigits(Polynomial),
@@ -79,7 +79,8 @@ fn number_at(numbers: &[u32], place: usize) -> u32
     numbers.get(place).copied().unwrap_or(0)
 }
 
-// The drawn numbers of 16 rows, which stand after the rows and the width; 0 where there are none.
+// The drawn numbers of 16 rows, which stand after the rows and the width; 0 where there are none. Read by place and not in
+// chunks of two, since a last number without its fellow counts too.
 fn drawn_of(numbers: &[u32]) -> [Draw; 16]
     ensures { result ≡ drawn_from numbers.now }
 {
@@ -117,7 +118,7 @@ fn polynomial_of(numbers: &[u32]) -> Result<Chosen, NoAnswer>
     Ok(Chosen::ByDigits(grouping))
 }
 
-// The grouping that a rule and numbers ask for.
+// The grouping that a rule and numbers ask for. Each rule reads numbers of its own.
 pub(crate) fn grouping_of(rule: RuleNamed, numbers: &[u32]) -> Result<Chosen, NoAnswer>
     ensures { result ≡ chosen_from (Some rule) (Some numbers.now) }
 {

@@ -13,7 +13,8 @@ use listing::{Typed, describe};
 use refusal::Refusal;
 use std::alloc::Global;
 
-// The keys of a text under a grouping, whose span has to reach all codes of the kind.
+// The keys of a text under a grouping, whose span has to reach all codes of the kind. The allocator goes beside the text, as to
+// whatever makes something.
 fn answer_by<K: Typed, G: Grouping>(
     heap: Global,
     grouping: &G,
@@ -27,7 +28,7 @@ fn answer_by<K: Typed, G: Grouping>(
     Ok(describe::<K, G>(heap, grouping, input)?)
 }
 
-// The rule is known only when the words are read, so a match picks the instance.
+// The grouping's type is known only when the words are read, so a match picks the instance.
 fn answer_for<K: Typed>(heap: Global, chosen: &Chosen, input: &[u8]) -> Result<String, NoAnswer>
     ensures { Tells string_bytes result (answer_for K.Key.kind K.Typed.typed chosen.now input.now) }
 {
@@ -37,7 +38,7 @@ fn answer_for<K: Typed>(heap: Global, chosen: &Chosen, input: &[u8]) -> Result<S
     }
 }
 
-// So is the kind.
+// The kind is a type, known only when the words are read, so a match picks the instance.
 fn answer_of(
     heap: Global,
     kind: KindNamed,

@@ -1,5 +1,5 @@
 -- What a refusal says: its number, and the values in its brackets.
-use Rattle.std.specs.Prelude.{ℕ, List, [], ◌∷◌, ◌++◌, decimal}
+use Rattle.std.specs.Prelude.{ℕ, List, [], ◌∷◌, ◌++◌, take, decimal}
 use Rattle.std.specs.List.{flat_map}
 use Rattle.refusal.specs.declared.Side.{Side}
 use Rattle.refusal.specs.declared.Side.TheVariants.{Written, Other}
@@ -7,6 +7,7 @@ use Rattle.refusal.specs.declared.Cause.{Cause}
 use Rattle.refusal.specs.declared.Cause.TheVariants.{TotalTooLarge, CellTooLarge, CellAboveCount, RowSumDiffers}
 use Rattle.refusal.specs.declared.Refusal.{Refusal}
 use Rattle.refusal.specs.declared.Refusal.TheVariants.{RowsOutOfRange, WidthNotAllowed, DrawnNumberTooLarge, SpanOutOfRange, KeyOutOfRange, SpanBelowCodes, WrongCellCount, WrongPlanNumber, ZeroWeight, LevelOutOfRange, ListTooShort, OutOfBalance, BufferTooShort, MessageMisshapen, PlanFieldDiffers, SectionUnsound, WrongLineForm}
+use Rattle.refusal.specs.declared.values.Values.{Values}
 
 pub record Reason : Type 0 where
   pub number : ℕ
@@ -44,6 +45,10 @@ reason (MessageMisshapen bit) = says 14 (bit ∷ [])
 reason (PlanFieldDiffers bit) = says 15 (bit ∷ [])
 reason (SectionUnsound row bit) = says 16 (row ∷ bit ∷ [])
 reason (WrongLineForm line) = says 17 (line ∷ [])
+
+-- what `values` answers, as a list
+abbrev pub listed : Values → List ℕ
+listed v = take v.count v.places
 
 -- each number after a space
 abbrev pub spaced : List ℕ → List ℕ

@@ -3,14 +3,13 @@
 
 ghost use Rattle.std.specs.Prelude.{◌≡◌, ◌≤◌, length, Some};
 ghost use Rattle.std.specs.Fmt.{WritesOnOk};
-ghost use Rattle.refusal.specs.Reason.{says, reason, spelt};
+ghost use Rattle.refusal.specs.Reason.{says, reason, listed, spelt};
 
-use arrayvec::ArrayVec;
+mod values;
+
 use std::error::Error;
 use std::fmt;
-
-/// The values in a refusal's brackets, at most four.
-pub type Values = ArrayVec<u64, 4>;
+pub use values::Values;
 
 /// Which of the boards that a call brings, by the number that stands for it.
 #[derive(Clone, Copy, Debug, PartialEq, Eq)]
@@ -94,6 +93,26 @@ pub enum Refusal {
     },
 }
 
+impl Values {
+    fn of(values: &[u64]) -> Values
+        requires few { length values.now ≤ 4 }
+        ensures { listed result ≡ values.now }
+    {
+        let mut places = [0; 4];
+        places[..values.len()].copy_from_slice(values);
+        Values {
+            places,
+            count: values.len(),
+        }
+    }
+
+    pub fn as_slice(&self) -> &[u64]
+        ensures { result.now ≡ listed self.now }
+    {
+        &self.places[0..self.count]
+    }
+}
+
 impl Refusal {
     // Cases carry values, so that no cast gives the number.
     pub fn number(&self) -> u32
@@ -121,33 +140,28 @@ impl Refusal {
     }
 
     pub fn values(&self) -> Values
-        ensures { result.items ≡ (reason self.now).values }
+        ensures { listed result ≡ (reason self.now).values }
     {
         match self {
-            Refusal::WrongCellCount { brought, board } => listed(&[*brought as u64, *board as u64]),
-            Refusal::WrongPlanNumber { board } => listed(&[*board as u64]),
+            Refusal::WrongCellCount { brought, board } => Values::of(&[
+                *brought as u64,
+                *board as u64,
+            ]),
+            Refusal::WrongPlanNumber { board } => Values::of(&[*board as u64]),
             Refusal::OutOfBalance {
                 cause,
                 row,
                 group,
                 cell,
-            } => listed(&[*cause as u64, *row as u64, *group as u64, *cell as u64]),
-            Refusal::BufferTooShort { needed } => listed(&[*needed as u64]),
-            Refusal::MessageMisshapen { bit_place } => listed(&[*bit_place]),
-            Refusal::PlanFieldDiffers { bit_place } => listed(&[*bit_place]),
-            Refusal::SectionUnsound { row, bit_place } => listed(&[*row as u64, *bit_place]),
-            Refusal::WrongLineForm { line } => listed(&[*line]),
-            _ => listed(&[]),
+            } => Values::of(&[*cause as u64, *row as u64, *group as u64, *cell as u64]),
+            Refusal::BufferTooShort { needed } => Values::of(&[*needed as u64]),
+            Refusal::MessageMisshapen { bit_place } => Values::of(&[*bit_place]),
+            Refusal::PlanFieldDiffers { bit_place } => Values::of(&[*bit_place]),
+            Refusal::SectionUnsound { row, bit_place } => Values::of(&[*row as u64, *bit_place]),
+            Refusal::WrongLineForm { line } => Values::of(&[*line]),
+            _ => Values::of(&[]),
         }
     }
-}
-
-// No refusal has more than four values.
-fn listed(values: &[u64]) -> Values
-    requires few { length values.now ≤ 4 }
-    ensures { result.items ≡ values.now }
-{
-    Values::try_from(values).unwrap()
 }
 
 // A number, and each value after a space.

@@ -43,12 +43,6 @@ impl Key for Pair {
     }
 
     fn from_code(code: u32) -> Option<Pair> {
-        if code >= Self::CODES {
-            return None;
-        }
-        Some(Pair {
-            source: code / 1000,
-            destination: code % 1000,
-        })
+        Pair::new(code / 1000, code % 1000).ok()
     }
 }

@@ -10,10 +10,7 @@ impl Station {
     pub fn new(number: u32) -> Result<Station, Refusal>
         ensures { result ≡ new_station number }
     {
-        if number >= 1_000_000_000 {
-            return Err(Refusal::KeyOutOfRange);
-        }
-        Ok(Station { number })
+        Station::from_code(number).ok_or(Refusal::KeyOutOfRange)
     }
 }
 
