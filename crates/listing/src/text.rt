@@ -10,8 +10,8 @@ pub(crate) fn place_of(byte: u8, text: &[u8]) -> Option<usize>
     text.iter().position(|b| *b == byte)
 }
 
-// The lines of a text, each without its line feed. The slice's `split` would add an empty line after the last feed, and its
-// `split_inclusive` keeps the feeds.
+// The lines of a text, each without its line feed. The slice's `split` would add an empty line after the last feed. The pieces of
+// its `split_inclusive` keep their feeds, and what is known of them hangs on the closure.
 #[derive(Drop)]
 pub(crate) struct Lines<'a>(pub(crate) &'a [u8]);
 

@@ -79,8 +79,8 @@ fn number_at(numbers: &[u32], place: usize) -> u32
     numbers.get(place).copied().unwrap_or(0)
 }
 
-// The drawn numbers of 16 rows, which stand after the rows and the width; 0 where there are none. Read by place and not in
-// chunks of two, since a last number without its fellow counts too.
+// The drawn numbers of 16 rows, which stand after the rows and the width; 0 where there are none. Read by place, as the
+// clause does, which is for any list.
 fn drawn_of(numbers: &[u32]) -> [Draw; 16]
     ensures { result ≡ drawn_from numbers.now }
 {
