@@ -1,9 +1,9 @@
 //! Groupings: rows of groups for codes, and the law that bounds how many rows two codes share.
 #![tactic(auto)]
 
-ghost use Rattle.std.specs.Prelude.{◌≡◌, ℕ, ◌^◌, ◌<◌, ◌≤◌, ◌&&◌, ◌≢◌, count_by, nat_lt};
+ghost use Rattle.std.specs.Prelude.{◌≡◌, ℕ, ◌<◌, ◌≤◌, ◌≢◌, count_by};
 ghost use Rattle.std.specs.List.{range_with_len};
-ghost use Rattle.model.specs.Grouping.{Groups, GroupsLaws, Spread, shares, shared_rows, OneGroupNeedsEveryRow};
+ghost use Rattle.model.specs.Grouping.{Groups, GroupsLaws, Spread, is_inside, shares, shared_rows, OneGroupNeedsEveryRow};
 ghost use Rattle.groupings.specs.Rows.{rows_fit};
 
 mod polynomial;
@@ -71,9 +71,9 @@ fn rows_fit(rows: usize) -> bool
     (1..=16).contains(&rows)
 }
 
-// Whether a row is used and a code below 2^30: what is outside has group 0.
+// Whether a row is used and a code below 2^30. What is outside has group 0.
 fn is_inside(rows: usize, row: usize, code: u32) -> bool
-    ensures { result ≡ (nat_lt row rows && nat_lt code (2 ^ 30)) }
+    ensures { result ≡ is_inside rows row code }
 {
     row < rows && code < 1 << 30
 }

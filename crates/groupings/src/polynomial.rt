@@ -4,10 +4,10 @@ ghost use Rattle.model.specs.Polynomial.{digit_count};
 
 pub mod grouping;
 
-/// The polynomial grouping. The digits of a code that its span asks for are counted once, when it is made. Rows and width are two
-/// numbers and no struct of their own, as each grouping allows other widths.
+/// The polynomial grouping. The digits of a code that its span asks for are counted once, when it is made.
 #[derive(Clone, Copy)]
 pub struct Polynomial {
+    // Two numbers and no struct of their own: each grouping allows other widths.
     rows: usize,
     width: usize,
     span: u32,

@@ -10,12 +10,12 @@ pub struct Draw {
     pub b: u32,
 }
 
-/// The universal grouping: two drawn numbers for each of 16 rows, of which the first `rows` are used. They stand in an array,
-/// so that it is `Copy` and the numbers of rows that are not used are kept.
+/// The universal grouping: two drawn numbers for each of 16 rows, of which the first `rows` are used.
 #[derive(Clone, Copy)]
 pub struct Universal {
     rows: usize,
     width: usize,
+    // An array, so that a grouping is `Copy` and keeps the numbers of unused rows.
     drawn: [Draw; 16],
     ghost fit: { universal_fit rows width drawn ≡ true },
 }

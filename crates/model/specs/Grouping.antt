@@ -17,9 +17,13 @@ pub record GroupsLaws (g : Groups) : Type 0 where
   pub group_below_width : (row code : ℕ) → g.group row code < g.width
   pub group_0_outside : (row code : ℕ) → (g.rows ≤ row) ⊎ (2 ^ 30 ≤ code) → g.group row code ≡ 0
 
--- a rule for groups, kept to rows below `rows` and codes below 2^30: any other row or code has group 0
+-- whether a row is used and a code below 2^30
+abbrev pub is_inside : (rows row code : ℕ) → Bool
+is_inside rows row code = nat_lt row rows && nat_lt code (2 ^ 30)
+
+-- a rule for groups, kept to what is inside: any other row or code has group 0
 abbrev pub inside : ℕ → (ℕ → ℕ → ℕ) → ℕ → ℕ → ℕ
-inside rows rule row code = cond (nat_lt row rows && nat_lt code (2 ^ 30)) (rule row code) 0
+inside rows rule row code = cond (is_inside rows row code) (rule row code) 0
 
 -- the groups of a code, row by row
 abbrev pub groups_of : Groups → ℕ → List ℕ

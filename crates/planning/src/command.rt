@@ -14,7 +14,7 @@ use refusal::Refusal;
 use std::alloc::Global;
 
 // The keys of a text under a grouping, whose span has to reach all codes of the kind: a test that a plan makes too, in a crate on
-// which this one does not rest. The allocator goes beside the text, as to whatever makes something.
+// which this one does not rest. The allocator is handed on, as to every call that makes something.
 fn answer_by<K: Typed, G: Grouping>(
     heap: Global,
     grouping: &G,

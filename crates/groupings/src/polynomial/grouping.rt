@@ -16,7 +16,8 @@ fn is_width(width: usize) -> bool
     matches!(width, 31 | 61 | 127 | 251 | 509 | 1021 | 2039 | 4093)
 }
 
-// The least number of at least 1 whose power of the width reaches the span: as many digits as its last code has.
+// The least number of at least 1 whose power of the width reaches the span: as many digits as its last code has. A span of 1
+// has only the code 0, which has one digit, as 1 has.
 #[tactic(auto, using(crate::proofs::DigitCount::digits_of_the_last_code))]
 fn digit_count(width: usize, span: u32) -> u32
     requires wide { 2 ≤ width }
