@@ -64,8 +64,9 @@ pub fn answer(heap: Global, words: &[String], input: &[u8]) -> Result<String, No
         return Err(NoAnswer::Usage);
     };
     let kind = kind.parse::<KindNamed>()?;
-    let rule = rule.parse::<RuleNamed>()?;
+    // A word that names no rule is told after the numbers are read, so that want of memory comes before it.
+    let rule = rule.parse::<RuleNamed>();
     let numbers = numbers_of(heap, numbers)?;
-    let chosen = grouping_of(rule, &numbers)?;
+    let chosen = grouping_of(rule?, &numbers)?;
     answer_of(heap, kind, &chosen, input)
 }
