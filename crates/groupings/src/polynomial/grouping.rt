@@ -16,20 +16,25 @@ fn is_width(width: usize) -> bool
     matches!(width, 31 | 61 | 127 | 251 | 509 | 1021 | 2039 | 4093)
 }
 
-// The least number of at least 1 whose power of the width reaches the span: as many digits as its last code has. A span of 1
-// has only the code 0, which has one digit, as 1 has.
-#[tactic(auto, using(crate::proofs::DigitCount::digits_of_the_last_code))]
+// The least number of at least 1 whose power of the width reaches the span. A loop that multiplies: the integer logarithm
+// divides at each digit, which takes several times as long.
 fn digit_count(width: usize, span: u32) -> u32
     requires wide { 2 ≤ width }
+    requires narrow { width ≤ 4093 }
     requires small { span ≤ 2 ^ 30 }
     ensures { result ≡ digit_count width span }
 {
-    let last = (span as usize).saturating_sub(1).max(1);
-    last.ilog(width) + 1
+    let mut digits = 1;
+    let mut power = width;
+    while power < span as usize {
+        power *= width;
+        digits += 1;
+    }
+    digits
 }
 
 impl Polynomial {
-    #[tactic(auto, using(model::proofs::Inverses::width_at_least_31))]
+    #[tactic(auto, using(model::proofs::Inverses::width_at_least_31, model::proofs::Inverses::width_at_most_4093))]
     pub fn new(rows: usize, width: usize, span: u32) -> Result<Polynomial, Refusal>
         ensures made { result ≡ new_polynomial rows width span }
         ensures digits_are_least { DigitsAreLeast result }
